@@ -1,8 +1,8 @@
 -- Logins that are measured.
 use Rattle.std.specs.Prelude.{ℕ}
 use Rattle.mongo_scram.specs.declared.cache.SaltedKey.{SaltedKey}
-use Rattle.mongo_generate.specs.Generated.{exchange_at}
-use Rattle.mongo_generate.specs.Login.{key_of, IsExchangeClient}
+use Rattle.mongo_generate.specs.Generated.{authentication_at}
+use Rattle.mongo_generate.specs.Login.{key_of, IsAuthenticationClient}
 use Rattle.mongo_bench.specs.declared.task.Hash.{Hash}
 use Rattle.mongo_bench.specs.declared.task.Hash.TheVariants.{Sha1, Sha256}
 use Rattle.mongo_server.specs.Server.{Serves}
@@ -15,9 +15,9 @@ number_of_hash Sha256 = 1
 
 -- the key from which it derives
 abbrev pub bench_key : Hash → SaltedKey
-bench_key hash = key_of (exchange_at (number_of_hash hash))
+bench_key hash = key_of (authentication_at (number_of_hash hash))
 
 -- a client and a server are the two sides of the first generated login over their hash
 pub record AreReady (peers : Peers) : Type 0 where
-  pub logs_in : IsExchangeClient (exchange_at (number_of_hash peers.hash)) peers.login
-  pub serves : Serves peers.server (exchange_at (number_of_hash peers.hash))
+  pub logs_in : IsAuthenticationClient (authentication_at (number_of_hash peers.hash)) peers.login
+  pub serves : Serves peers.server (authentication_at (number_of_hash peers.hash))

@@ -16,7 +16,7 @@ use Rattle.mongo_settings.specs.Settings.{maximum_settings_length}
 use Rattle.mongo_settings.specs.Status.{status_after, JudgementDecides}
 use Rattle.mongo_settings.specs.Outcome.{taken_by}
 use Rattle.mongo_settings.specs.Task.{StepsTaken}
-use Rattle.mongo_settings.proofs.Endings.{decides_asked, decides_bad, decides_unbuilt, decides_memory}
+use Rattle.mongo_settings.proofs.Endings.{decides_ok, decides_bad, decides_unbuilt, decides_memory}
 use Rattle.mongo_settings.proofs.Outcomes.{one_status}
 use Rattle.mongo_settings.specs.declared.status.Status.{Status}
 use Rattle.mongo_settings.specs.declared.status.Status.TheVariants.{Done, Refused, BadSettings, Usage, SourceFault, SinkFault, NoMemory, NotBuilt}
@@ -99,7 +99,7 @@ module _ {L K : Type 0} (link : L → State) (sink : K → State) (steps : Steps
     reported_decides : (status : RehearsalStatus) → ConnectReported link sink steps status run → JudgementDecides (LineComesOut (after_line input)) (line_judged (line_of input)) (status_after status)
     reported_decides status r =
         let c = r.attempt.connected input told u.link_unfailed in
-        decides_asked _ _ c.settings status c.settings_are
+        decides_ok _ _ c.settings status c.settings_are
         (λ other out. sym r.status_is ∙ c.status_is ∙ one_status (with_replies c.settings (after_line input)) r.rehearsal.report.items c.report other out)
 
     judged_input : (error : SettingsError) → IsRefusedLine link sink error run → line_judged (line_of input) ≡ Err error

@@ -8,13 +8,13 @@ use Rattle.mongo_scram.specs.Cache.{entries_of}
 use Rattle.mongo_scram.specs.Costs.{ledgers}
 use Rattle.mongo_establish.specs.declared.establisher.PooledConnection.{PooledConnection}
 use Rattle.mongo_establish.specs.declared.establisher.EstablishError.{EstablishError}
-use Rattle.mongo_establish.specs.Asked.{Asked}
+use Rattle.mongo_establish.specs.Setup.{Setup}
 use Rattle.mongo_establish.specs.Ending.{EndsEstablishment}
 use Rattle.mongo_establish.specs.KeyCosts.{CostsOver}
 use Rattle.mongo_establish.proofs.Establishment.{stopped_refusal}
 use Rattle.mongo_settings.specs.declared.settings.Settings.{Settings}
 use Rattle.mongo_settings.specs.declared.rehearsal.Rehearsal.{Rehearsal}
-use Rattle.mongo_settings.specs.Outcome.{asked_of}
+use Rattle.mongo_settings.specs.Outcome.{setup_of}
 use Rattle.mongo_settings.specs.Task.{StepsTaken}
 use Rattle.mongo_settings.specs.Telling.{IsReported, Tells}
 use Rattle.mongo_settings.proofs.Rehearsing.{Replayed, rehearsed}
@@ -25,9 +25,9 @@ use Rattle.mongo_connect.specs.Settings.{with_replies}
 
 -- ---- what was recorded
 
-attempted : (settings : Settings) (steps : StepsTaken) (asked : Asked) (origin start new : State) (after : ℤ) (held held_after : SaltedCache) (result : Result PooledConnection EstablishError)
-    → start ≡ origin → asked ≡ asked_of settings → entries_of held ≡ [] → EndsEstablishment asked start new after (ledgers steps.before held) (ledgers steps.after held_after) result → Attempted settings steps result origin new
-attempted settings steps asked origin start new after held held_after result begun same none ended =
+attempted : (settings : Settings) (steps : StepsTaken) (setup : Setup) (origin start new : State) (after : ℤ) (held held_after : SaltedCache) (result : Result PooledConnection EstablishError)
+    → start ≡ origin → setup ≡ setup_of settings → entries_of held ≡ [] → EndsEstablishment setup start new after (ledgers steps.before held) (ledgers steps.after held_after) result → Attempted settings steps result origin new
+attempted settings steps setup origin start new after held held_after result begun same none ended =
     let first = ledgers steps.before held in
     let last = ledgers steps.after held_after in
     record {
@@ -35,16 +35,16 @@ attempted settings steps asked origin start new after held held_after result beg
       held = held;
       none_held = none;
       held_after = held_after;
-      ended = subst (λ s. EndsEstablishment (asked_of settings) s new after first last result) begun (subst (λ a. EndsEstablishment a start new after first last result) same ended);
+      ended = subst (λ s. EndsEstablishment (setup_of settings) s new after first last result) begun (subst (λ a. EndsEstablishment a start new after first last result) same ended);
     }
 
 -- an establishment that began where its recording did is told by what that holds
-pub told_over : {E : Type 0} {asked : Asked} (settings : Settings) (steps : StepsTaken) (origin start new : State) (after : ℤ) (held held_after : SaltedCache) (result : Result PooledConnection EstablishError) (written : List ℕ) (taken : ℕ) (r : Result Rehearsal E)
-    → start ≡ origin → asked ≡ asked_of settings → entries_of held ≡ [] → EndsEstablishment asked start new after (ledgers steps.before held) (ledgers steps.after held_after) result
+pub told_over : {E : Type 0} {setup : Setup} (settings : Settings) (steps : StepsTaken) (origin start new : State) (after : ℤ) (held held_after : SaltedCache) (result : Result PooledConnection EstablishError) (written : List ℕ) (taken : ℕ) (r : Result Rehearsal E)
+    → start ≡ origin → setup ≡ setup_of settings → entries_of held ≡ [] → EndsEstablishment setup start new after (ledgers steps.before held) (ledgers steps.after held_after) result
     → new.written ≡ append_known origin.written written → IsTakenCount origin.left new.left taken → IfOk r (Tells written taken result) → IfOk r (IsConnectionTold settings steps origin new)
-told_over {asked = asked} settings steps origin start new after held held_after result written taken (Ok x) begun same none ended appended counted tells = record {
+told_over {setup = setup} settings steps origin start new after held held_after result written taken (Ok x) begun same none ended appended counted tells = record {
   ended = result;
-  attempted = attempted settings steps asked origin start new after held held_after result begun same none ended;
+  attempted = attempted settings steps setup origin start new after held held_after result begun same none ended;
   written = written;
   appended = appended;
   taken = taken;
@@ -53,16 +53,16 @@ told_over {asked = asked} settings steps origin start new after held held_after 
 }
 told_over settings steps origin start new after held held_after result written taken (Err e) begun same none ended appended counted tells = tt
 
-pub untold_over : {A E : Type 0} {asked : Asked} (settings : Settings) (steps : StepsTaken) (origin start new : State) (after : ℤ) (held held_after : SaltedCache) (result : Result PooledConnection EstablishError) (r : Result A E)
-    → start ≡ origin → asked ≡ asked_of settings → entries_of held ≡ [] → EndsEstablishment asked start new after (ledgers steps.before held) (ledgers steps.after held_after) result → OnErr r (IsUntold settings steps origin new)
+pub untold_over : {A E : Type 0} {setup : Setup} (settings : Settings) (steps : StepsTaken) (origin start new : State) (after : ℤ) (held held_after : SaltedCache) (result : Result PooledConnection EstablishError) (r : Result A E)
+    → start ≡ origin → setup ≡ setup_of settings → entries_of held ≡ [] → EndsEstablishment setup start new after (ledgers steps.before held) (ledgers steps.after held_after) result → OnErr r (IsUntold settings steps origin new)
 untold_over settings steps origin start new after held held_after result (Ok x) begun same none ended = tt
-untold_over {asked = asked} settings steps origin start new after held held_after result (Err e) begun same none ended = inr (result, attempted settings steps asked origin start new after held held_after result begun same none ended)
+untold_over {setup = setup} settings steps origin start new after held held_after result (Err e) begun same none ended = inr (result, attempted settings steps setup origin start new after held held_after result begun same none ended)
 
 -- ---- over told bytes
 
-same_asked : (settings : Settings) (bytes : List ℕ) → asked_of settings ≡ asked_of (with_replies settings bytes)
-unfolding asked_of
-same_asked settings bytes = refl
+same_setup : (settings : Settings) (bytes : List ℕ) → setup_of settings ≡ setup_of (with_replies settings bytes)
+unfolding setup_of
+same_setup settings bytes = refl
 
 -- bytes are left
 left_over : (settings : Settings) (bytes : List ℕ) (steps : StepsTaken) (old new : State) (ended : Result PooledConnection EstablishError) (written : List ℕ) (taken : ℕ) (x : Rehearsal)
@@ -71,7 +71,7 @@ left_over settings bytes steps old new (Ok pooled) written taken x a t f tells =
     let rest = a.ended.established.scripted.taken bytes t.left in
     (rest.rest, rest.left_is)
 left_over settings bytes steps old new (Err refusal) written taken x a t f tells =
-    elim (stopped_refusal refusal.handshake_phase (asked_of settings) refusal.cause.kind old new a.after _ _ bytes a.ended.refused t.left f) [
+    elim (stopped_refusal refusal.handshake_phase (setup_of settings) refusal.cause.kind old new a.after _ _ bytes a.ended.refused t.left f) [
       | inl memory ↦ absurd (subst IsReported memory tells.reported)
       | inr r ↦ (r.refusal.unread, r.left_by.left)
     ]
@@ -90,10 +90,10 @@ rehearses settings bytes steps old new x told t f =
       left_is = left_is;
       unfailed = f;
     } in
-    let replays = rehearsed {E = ℕ} (with_replies settings bytes) (asked_of settings) old new told.attempted.after _ _ told.written left told.taken told.ended (Ok x) (same_asked settings bytes) told.attempted.ended.established told.attempted.ended.refused replayed count told.tells in
+    let replays = rehearsed {E = ℕ} (with_replies settings bytes) (setup_of settings) old new told.attempted.after _ _ told.written left told.taken told.ended (Ok x) (same_setup settings bytes) told.attempted.ended.established told.attempted.ended.refused replayed count told.tells in
     let first = ledgers steps.before told.attempted.held in
     let last = ledgers steps.after told.attempted.held_after in
-    let over = subst (λ asked. CostsOver told.ended asked bytes first last) (same_asked settings bytes) (told.attempted.ended.led.over bytes t.left f) in
+    let over = subst (λ setup. CostsOver told.ended setup bytes first last) (same_setup settings bytes) (told.attempted.ended.led.over bytes t.left f) in
     let counts = counted_over (with_replies settings bytes) first last told.ended told.written told.taken x told.attempted.none_held over told.tells in
     record {
       rehearsal_is = replays.rehearses.rehearsal_is;

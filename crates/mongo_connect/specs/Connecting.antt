@@ -10,7 +10,7 @@ use Rattle.mongo_establish.specs.declared.establisher.EstablishError.{EstablishE
 use Rattle.mongo_establish.specs.Ending.{EndsEstablishment}
 use Rattle.mongo_settings.specs.declared.settings.Settings.{Settings}
 use Rattle.mongo_settings.specs.declared.rehearsal.Rehearsal.{Rehearsal}
-use Rattle.mongo_settings.specs.Outcome.{asked_of}
+use Rattle.mongo_settings.specs.Outcome.{setup_of}
 use Rattle.mongo_settings.specs.Rehearsal.{IsRehearsal, LeftAs}
 use Rattle.mongo_settings.specs.Task.{StepsTaken, CountsKey}
 use Rattle.mongo_settings.specs.Telling.{Tells}
@@ -24,7 +24,7 @@ pub record Attempted (settings : Settings) (steps : StepsTaken) (result : Result
   pub held : SaltedCache
   pub none_held : entries_of held ≡ []
   pub held_after : SaltedCache
-  pub ended : EndsEstablishment (asked_of settings) old new after (ledgers steps.before held) (ledgers steps.after held_after) result
+  pub ended : EndsEstablishment (setup_of settings) old new after (ledgers steps.before held) (ledgers steps.after held_after) result
 
 -- the report tells how it ended, by all that was written and how many bytes were taken
 pub record IsConnectionTold (settings : Settings) (steps : StepsTaken) (old new : State) (rehearsal : Rehearsal) : Type 0 where

@@ -36,7 +36,7 @@ pub record Connected (input : List ℕ) (steps : StepsTaken) (rehearsal : Rehear
   pub counted : CountsKey (with_replies settings (after_line input)) steps
 
 -- the first line was read and is settings, and what they ask for was done over what follows
-pub record LineAsked (P : Settings → State → State → Type 0) (old new : State) : Type 0 where
+pub record LineDone (P : Settings → State → State → Type 0) (old new : State) : Type 0 where
   pub line : List ℕ
   pub middle : State
   pub line_read : LineRead line old middle
@@ -46,7 +46,7 @@ pub record LineAsked (P : Settings → State → State → Type 0) (old new : St
 
 -- The report tells how the establishment ended that the first line asks for, also over a link that fails or tells nothing.
 pub record Attempt (steps : StepsTaken) (rehearsal : Rehearsal) (old new : State) : Type 0 where
-  pub told : LineAsked (λ settings middle after. IsConnectionTold settings steps middle after rehearsal) old new
+  pub told : LineDone (λ settings middle after. IsConnectionTold settings steps middle after rehearsal) old new
   pub connected : (input : List ℕ) → TellsBytes old input → Unfailed old new → Connected input steps rehearsal old new
 
 -- ---- the ends, one a status
@@ -106,7 +106,7 @@ module _ {L K : Type 0} (link : L → State) (sink : K → State) where
 
   -- what the settings ask for has no report, and none was begun
   pub record Unreported (steps : StepsTaken) (run : Run L K) : Type 0 where
-    pub asked : LineAsked (λ settings middle after. IsUntold settings steps middle after) (link run.source) (link run.source_after)
+    pub setup : LineDone (λ settings middle after. IsUntold settings steps middle after) (link run.source) (link run.source_after)
     pub unreported : run.sink_after ≡ run.sink
 
   -- how a run on a line ends, and the steps that it counted

@@ -13,7 +13,7 @@ use Rattle.mongo_establish.specs.declared.establisher.PendingConnection.{Pending
 use Rattle.mongo_establish.specs.declared.establisher.PooledConnection.{PooledConnection}
 use Rattle.mongo_establish.specs.declared.login_state.Nonces.{Nonces}
 use Rattle.mongo_establish.specs.declared.options.HandshakerOptions.{HandshakerOptions}
-use Rattle.mongo_establish.specs.Asked.{Asked, asked_for, asked_over}
+use Rattle.mongo_establish.specs.Setup.{Setup, setup_for, setup_over}
 use Rattle.mongo_establish.specs.Established.{Established, ShookHands, StoppedHandshake}
 use Rattle.mongo_establish.specs.Plan.{handshake_plan, establishment_plan}
 use Rattle.mongo_establish.specs.Pooled.{phase_at, IsPooled, UnnamedService}
@@ -22,15 +22,15 @@ use Rattle.mongo_establish.proofs.Establishment.{shaking_stops, handshake_stops,
 use Rattle.mongo_establish.proofs.Handshaken.{established, stopped_in, unnamed_stopped}
 
 -- a refusal comes where the establishment was stopped
-abbrev pub StopsIn : Asked → State → State → ℤ → Ledgers → Ledgers → EstablishError → Type 0
-StopsIn asked old new after first last e = StoppedIn e.handshake_phase asked e.cause.kind old new after first last
+abbrev pub StopsIn : Setup → State → State → ℤ → Ledgers → Ledgers → EstablishError → Type 0
+StopsIn setup old new after first last e = StoppedIn e.handshake_phase setup e.cause.kind old new after first last
 
 module _ (pending : PendingConnection) (options : HandshakerOptions) (credential : Option Credential) (nonces : Nonces) (id : ℤ) (opened : Connection) (same : opened.address ≡ pending.address) where
-  abbrev wanted : Asked
-  wanted = asked_for pending options credential nonces id
+  abbrev wanted : Setup
+  wanted = setup_for pending options credential nonces id
 
-  abbrev over : Asked
-  over = asked_over opened options credential nonces id
+  abbrev over : Setup
+  over = setup_over opened options credential nonces id
 
   -- after a handshake the connection is ready, or its server named no service
   pub answers_established : (r : Result PooledConnection EstablishError) (connection : Connection) (old new : State) (after : ℤ) (first last : Ledgers) (reply : HelloReply) → opened.id ≡ pending.id → opened.oidc_token_gen_id ≡ 0 → ShookHands over opened connection old new after first last reply
@@ -51,12 +51,12 @@ module _ (pending : PendingConnection) (options : HandshakerOptions) (credential
 
 -- ---- whatever part was stopped, the plan was
 
-pub shaking_stopped : {T : Type 0} (r : Result T Error) (asked : Asked) (opened connection : Connection) (old new : State) (after : ℤ) (first last : Ledgers) → IfErr r (λ e. StoppedHandshake asked opened connection e.kind old new after first last)
-    → IfErr r (λ e. Stopped (handshake_plan asked) e.kind old new asked.first_id after)
-shaking_stopped r asked opened connection old new after first last = IfErr-weaker r _ _ (λ e. shaking_stops asked opened connection e.kind old new after first last)
+pub shaking_stopped : {T : Type 0} (r : Result T Error) (setup : Setup) (opened connection : Connection) (old new : State) (after : ℤ) (first last : Ledgers) → IfErr r (λ e. StoppedHandshake setup opened connection e.kind old new after first last)
+    → IfErr r (λ e. Stopped (handshake_plan setup) e.kind old new setup.first_id after)
+shaking_stopped r setup opened connection old new after first last = IfErr-weaker r _ _ (λ e. shaking_stops setup opened connection e.kind old new after first last)
 
-pub handshake_stopped : {T : Type 0} (r : Result T Error) (asked : Asked) (old new : State) (after : ℤ) → IfErr r (λ e. Stopped (handshake_plan asked) e.kind old new asked.first_id after) → IfErr r (λ e. Stopped (establishment_plan asked) e.kind old new asked.first_id after)
-handshake_stopped r asked old new after = IfErr-weaker r _ _ (λ e. handshake_stops asked e.kind old new after)
+pub handshake_stopped : {T : Type 0} (r : Result T Error) (setup : Setup) (old new : State) (after : ℤ) → IfErr r (λ e. Stopped (handshake_plan setup) e.kind old new setup.first_id after) → IfErr r (λ e. Stopped (establishment_plan setup) e.kind old new setup.first_id after)
+handshake_stopped r setup old new after = IfErr-weaker r _ _ (λ e. handshake_stops setup e.kind old new after)
 
-pub establishment_stopped : {T : Type 0} (r : Result T EstablishError) (asked : Asked) (old new : State) (after : ℤ) (first last : Ledgers) → IfErr r (StopsIn asked old new after first last) → IfErr r (λ e. Stopped (establishment_plan asked) e.cause.kind old new asked.first_id after)
-establishment_stopped r asked old new after first last = IfErr-weaker r _ _ (λ e. stopped_whole e.handshake_phase asked e.cause.kind old new after first last)
+pub establishment_stopped : {T : Type 0} (r : Result T EstablishError) (setup : Setup) (old new : State) (after : ℤ) (first last : Ledgers) → IfErr r (StopsIn setup old new after first last) → IfErr r (λ e. Stopped (establishment_plan setup) e.cause.kind old new setup.first_id after)
+establishment_stopped r setup old new after first last = IfErr-weaker r _ _ (λ e. stopped_whole e.handshake_phase setup e.cause.kind old new after first last)

@@ -14,7 +14,7 @@ use Rattle.mongo_sasl.specs.declared.mechanism.AuthMechanism.{AuthMechanism}
 use Rattle.mongo_sasl.specs.declared.mechanism.AuthMechanism.TheVariants.{MongoDbCr}
 use Rattle.mongo_establish.specs.declared.conversation.Conversation.{Conversation}
 use Rattle.mongo_establish.specs.declared.conversation.Conversation.TheVariants.{Scram}
-use Rattle.mongo_establish.specs.Asked.{Asked}
+use Rattle.mongo_establish.specs.Setup.{Setup}
 use Rattle.mongo_establish.specs.Established.{StoppedHandshake}
 use Rattle.mongo_establish.specs.Greeting.{Greeting, Greets}
 use Rattle.mongo_establish.specs.Login.{logging_in, speculative_reply, IsMechanism, InvalidRow}
@@ -58,11 +58,11 @@ no_document_row document (inl (other, inl said)) = let is = said.1 in cc
 no_document_row document (inl (other, inr row)) = let is = row.1.0 in cc
 no_document_row document (inr (other, said)) = description_row_other said.response IncompatibleServer said.row refl
 
-fits_hello : (asked : Asked) → NeverIncompatible (hello_plan asked)
+fits_hello : (setup : Setup) → NeverIncompatible (hello_plan setup)
 unfolding hello_plan
-fits_hello asked =
-    never_unless IncompatibleServer (HelloRow asked.credential) (saying (hello_said asked) (after_hello asked.pending.address)) (no_hello_row asked.credential) (never_saying IncompatibleServer (hello_said asked) (after_hello asked.pending.address) (λ reply.
-    never_unless IncompatibleServer (DocumentRow reply) (reading (Greets asked.pending.address reply) ending) (no_document_row reply) (never_reading IncompatibleServer (Greets asked.pending.address reply) ending (λ greeting. never_ending IncompatibleServer greeting))))
+fits_hello setup =
+    never_unless IncompatibleServer (HelloRow setup.credential) (saying (hello_said setup) (after_hello setup.pending.address)) (no_hello_row setup.credential) (never_saying IncompatibleServer (hello_said setup) (after_hello setup.pending.address) (λ reply.
+    never_unless IncompatibleServer (DocumentRow reply) (reading (Greets setup.pending.address reply) ending) (no_document_row reply) (never_reading IncompatibleServer (Greets setup.pending.address reply) ending (λ greeting. never_ending IncompatibleServer greeting))))
 
 -- ---- the login
 
@@ -70,25 +70,25 @@ no_invalid : (reply : Option (List ℕ)) (mechanism : AuthMechanism) (credential
 no_invalid None mechanism credential row = row
 no_invalid (Some reply) mechanism credential row = row
 
-fits_validated : (mechanism : AuthMechanism) (asked : Asked) (credential : Credential) (greeting : Greeting) (conversation : Conversation) → NeverIncompatible (validated mechanism asked credential greeting conversation)
-fits_validated mechanism asked credential greeting conversation =
-    never_unless IncompatibleServer (InvalidRow (speculative_reply asked greeting) mechanism credential) (conversation_plan conversation asked credential greeting) (no_invalid (speculative_reply asked greeting) mechanism credential) (joins conversation asked credential greeting).fits
+fits_validated : (mechanism : AuthMechanism) (setup : Setup) (credential : Credential) (greeting : Greeting) (conversation : Conversation) → NeverIncompatible (validated mechanism setup credential greeting conversation)
+fits_validated mechanism setup credential greeting conversation =
+    never_unless IncompatibleServer (InvalidRow (speculative_reply setup greeting) mechanism credential) (conversation_plan conversation setup credential greeting) (no_invalid (speculative_reply setup greeting) mechanism credential) (joins conversation setup credential greeting).fits
 
-fits_mechanism : (mechanism : AuthMechanism) (asked : Asked) (credential : Credential) (greeting : Greeting) → NeverIncompatible (mechanism_plan mechanism asked credential greeting)
+fits_mechanism : (mechanism : AuthMechanism) (setup : Setup) (credential : Credential) (greeting : Greeting) → NeverIncompatible (mechanism_plan mechanism setup credential greeting)
 unfolding mechanism_plan
-fits_mechanism mechanism asked credential greeting = never_reading IncompatibleServer (HasConversation mechanism) (validated mechanism asked credential greeting) (fits_validated mechanism asked credential greeting)
+fits_mechanism mechanism setup credential greeting = never_reading IncompatibleServer (HasConversation mechanism) (validated mechanism setup credential greeting) (fits_validated mechanism setup credential greeting)
 
-fits_login_by : (who : Option Credential) (asked : Asked) (greeting : Greeting) → NeverIncompatible (login_by who asked greeting)
-fits_login_by None asked greeting = never_ending IncompatibleServer greeting
-fits_login_by (Some credential) asked greeting =
-    never_reading IncompatibleServer (IsMechanism credential.mechanism (speculative_reply asked greeting) greeting.description) (λ mechanism. mechanism_plan mechanism asked credential greeting) (λ mechanism. fits_mechanism mechanism asked credential greeting)
+fits_login_by : (who : Option Credential) (setup : Setup) (greeting : Greeting) → NeverIncompatible (login_by who setup greeting)
+fits_login_by None setup greeting = never_ending IncompatibleServer greeting
+fits_login_by (Some credential) setup greeting =
+    never_reading IncompatibleServer (IsMechanism credential.mechanism (speculative_reply setup greeting) greeting.description) (λ mechanism. mechanism_plan mechanism setup credential greeting) (λ mechanism. fits_mechanism mechanism setup credential greeting)
 
 -- ---- the handshake
 
-pub compatible : (asked : Asked) (opened connection : Connection) (kind : ErrorKind) (old new : State) (after : ℤ) (first last : Ledgers) → StoppedHandshake asked opened connection kind old new after first last → kind ≡ IncompatibleServer → ⊥
+pub compatible : (setup : Setup) (opened connection : Connection) (kind : ErrorKind) (old new : State) (after : ℤ) (first last : Ledgers) → StoppedHandshake setup opened connection kind old new after first last → kind ≡ IncompatibleServer → ⊥
 unfolding login_plan
-compatible asked opened connection kind old new after first last s is =
-    elim (subst (λ k. StoppedHandshake asked opened connection k old new after first last) is s) [
-      | inl hello ↦ no_stop (hello_plan asked) old new asked.first_id after (fits_hello asked) hello.hello
-      | inr login ↦ no_stop (login_plan asked login.greeting) login.middle new login.between after (fits_login_by (logging_in asked login.greeting) asked login.greeting) login.login
+compatible setup opened connection kind old new after first last s is =
+    elim (subst (λ k. StoppedHandshake setup opened connection k old new after first last) is s) [
+      | inl hello ↦ no_stop (hello_plan setup) old new setup.first_id after (fits_hello setup) hello.hello
+      | inr login ↦ no_stop (login_plan setup login.greeting) login.middle new login.between after (fits_login_by (logging_in setup login.greeting) setup login.greeting) login.login
     ]

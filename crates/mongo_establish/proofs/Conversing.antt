@@ -29,7 +29,7 @@ use Rattle.mongo_scram.proofs.LoginSteps.{StopsScram}
 use Rattle.mongo_establish.specs.declared.conversation.Conversation.{Conversation}
 use Rattle.mongo_establish.specs.declared.conversation.Conversation.TheVariants.{Scram, Plain as PlainText, X509}
 use Rattle.mongo_establish.specs.declared.answered_round.AnsweredRound.{AnsweredRound}
-use Rattle.mongo_establish.specs.Asked.{Asked}
+use Rattle.mongo_establish.specs.Setup.{Setup}
 use Rattle.mongo_establish.specs.Costs.{AcceptedCosts, StoppedCosts}
 use Rattle.mongo_establish.specs.First.{IsRoundBy, scram_round}
 use Rattle.mongo_establish.specs.Greeting.{Greeting}
@@ -51,47 +51,47 @@ then_stopped plan greeting kind old new before after s = stopped_first plan (λ 
 -- ---- SCRAM
 
 -- what it was handed is what the plan says
-handed_same : (version : ScramVersion) (asked : Asked) (credential : Credential) (greeting : Greeting) (api : Option ServerApi) (round : Option AnsweredRound) (begun : Option ScramRound) (held : Option StreamDescription) → api ≡ asked.options.auth_options.server_api → begun ≡ scram_round round → IsRoundBy (Some (Scram version)) credential asked greeting round → held ≡ Some greeting.description
-    → handed_to version credential api begun (base64_of asked.nonces.second) asked.options.max_iterations (frame_maximum held) ≡ scram_handed_by version asked credential greeting
-handed_same version asked credential greeting api round begun held p b went d =
+handed_same : (version : ScramVersion) (setup : Setup) (credential : Credential) (greeting : Greeting) (api : Option ServerApi) (round : Option AnsweredRound) (begun : Option ScramRound) (held : Option StreamDescription) → api ≡ setup.options.auth_options.server_api → begun ≡ scram_round round → IsRoundBy (Some (Scram version)) credential setup greeting round → held ≡ Some greeting.description
+    → handed_to version credential api begun (base64_of setup.nonces.second) setup.options.max_iterations (frame_maximum held) ≡ scram_handed_by version setup credential greeting
+handed_same version setup credential greeting api round begun held p b went d =
     let q = ap speculated_of b ∙ went.scram tt in
-    λ i. let h : Handed = record { version = version; credential = credential; server_api = p i; speculated = q i; nonce = base64_of asked.nonces.second; max_iterations = asked.options.max_iterations; maximum = frame_maximum (d i) } in h
+    λ i. let h : Handed = record { version = version; credential = credential; server_api = p i; speculated = q i; nonce = base64_of setup.nonces.second; max_iterations = setup.options.max_iterations; maximum = frame_maximum (d i) } in h
 
-scram_accepted : (version : ScramVersion) (asked : Asked) (credential : Credential) (greeting : Greeting) (buffer : FrameBuffer) (old new : Balance) → Accepted (scram_handed_by version asked credential greeting) buffer old new → Conversed (Scram version) asked credential greeting old new
+scram_accepted : (version : ScramVersion) (setup : Setup) (credential : Credential) (greeting : Greeting) (buffer : FrameBuffer) (old new : Balance) → Accepted (scram_handed_by version setup credential greeting) buffer old new → Conversed (Scram version) setup credential greeting old new
 unfolding conversation_plan
-scram_accepted version asked credential greeting buffer old new is = record {
-  reached = then_reached (scram_plan (scram_handed_by version asked credential greeting)) is.challenge greeting old.state new.state old.id new.id (accepted_reached (scram_handed_by version asked credential greeting) buffer old new is);
+scram_accepted version setup credential greeting buffer old new is = record {
+  reached = then_reached (scram_plan (scram_handed_by version setup credential greeting)) is.challenge greeting old.state new.state old.id new.id (accepted_reached (scram_handed_by version setup credential greeting) buffer old new is);
   costs = record { buffer = buffer; accepted = is };
 }
 
-scram_stopped : (version : ScramVersion) (asked : Asked) (credential : Credential) (greeting : Greeting) (kind : ErrorKind) (kept : Option ErrorKind) (old new : Balance) → StopsScram (scram_handed_by version asked credential greeting) kind kept old new → ConversationStopped (Scram version) asked credential greeting kind kept old new
+scram_stopped : (version : ScramVersion) (setup : Setup) (credential : Credential) (greeting : Greeting) (kind : ErrorKind) (kept : Option ErrorKind) (old new : Balance) → StopsScram (scram_handed_by version setup credential greeting) kind kept old new → ConversationStopped (Scram version) setup credential greeting kind kept old new
 unfolding conversation_plan
-scram_stopped version asked credential greeting kind kept old new is = record {
-  stopped = then_stopped (scram_plan (scram_handed_by version asked credential greeting)) greeting kind old.state new.state old.id new.id is.1;
+scram_stopped version setup credential greeting kind kept old new is = record {
+  stopped = then_stopped (scram_plan (scram_handed_by version setup credential greeting)) greeting kind old.state new.state old.id new.id is.1;
   costs = is.0;
 }
 
-module _ (version : ScramVersion) (asked : Asked) (credential : Credential) (round : Option AnsweredRound) (opened left : Connection) (api : Option ServerApi) (same : api ≡ asked.options.auth_options.server_api) (begun : Option ScramRound) (begins : begun ≡ scram_round round) where
+module _ (version : ScramVersion) (setup : Setup) (credential : Credential) (round : Option AnsweredRound) (opened left : Connection) (api : Option ServerApi) (same : api ≡ setup.options.auth_options.server_api) (begun : Option ScramRound) (begins : begun ≡ scram_round round) where
   abbrev handed : Handed
-  handed = handed_to version credential api begun (base64_of asked.nonces.second) asked.options.max_iterations (frame_maximum opened.stream_description)
+  handed = handed_to version credential api begun (base64_of setup.nonces.second) setup.options.max_iterations (frame_maximum opened.stream_description)
 
-  scram_done : (greeting : Greeting) (r : Result (Unit {0}) Error) (buffer : FrameBuffer) (old new : Balance) → opened.stream_description ≡ Some greeting.description → IsRoundBy (Some (Scram version)) credential asked greeting round
-      → OnOk r (Accepted handed buffer old new) → OnOk r (Conversed (Scram version) asked credential greeting old new)
+  scram_done : (greeting : Greeting) (r : Result (Unit {0}) Error) (buffer : FrameBuffer) (old new : Balance) → opened.stream_description ≡ Some greeting.description → IsRoundBy (Some (Scram version)) credential setup greeting round
+      → OnOk r (Accepted handed buffer old new) → OnOk r (Conversed (Scram version) setup credential greeting old new)
   scram_done greeting (Ok done) buffer old new described went accepted =
-      let is = handed_same version asked credential greeting api round begun opened.stream_description same begins went described in
-      scram_accepted version asked credential greeting buffer old new (subst (λ h. Accepted h buffer old new) is accepted)
+      let is = handed_same version setup credential greeting api round begun opened.stream_description same begins went described in
+      scram_accepted version setup credential greeting buffer old new (subst (λ h. Accepted h buffer old new) is accepted)
   scram_done greeting (Err e) buffer old new described went accepted = tt
 
-  scram_failed : (greeting : Greeting) (r : Result (Unit {0}) Error) (old new : Balance) → opened.stream_description ≡ Some greeting.description → IsRoundBy (Some (Scram version)) credential asked greeting round
-      → IfErr r (λ e. StoppedScram handed e.kind old new) → IfErr r (λ e. StoppedKeeping (scram_plan handed) e.kind old.state new.state old.id new.id (kept_fault left)) → IfErr r (λ e. ConversationStopped (Scram version) asked credential greeting e.kind (kept_fault left) old new)
+  scram_failed : (greeting : Greeting) (r : Result (Unit {0}) Error) (old new : Balance) → opened.stream_description ≡ Some greeting.description → IsRoundBy (Some (Scram version)) credential setup greeting round
+      → IfErr r (λ e. StoppedScram handed e.kind old new) → IfErr r (λ e. StoppedKeeping (scram_plan handed) e.kind old.state new.state old.id new.id (kept_fault left)) → IfErr r (λ e. ConversationStopped (Scram version) setup credential greeting e.kind (kept_fault left) old new)
   scram_failed greeting (Ok done) old new described went costs stopped = tt
   scram_failed greeting (Err e) old new described went costs stopped =
-      let is = handed_same version asked credential greeting api round begun opened.stream_description same begins went described in
-      scram_stopped version asked credential greeting e.kind (kept_fault left) old new (subst (λ h. StopsScram h e.kind (kept_fault left) old new) is (costs, stopped))
+      let is = handed_same version setup credential greeting api round begun opened.stream_description same begins went described in
+      scram_stopped version setup credential greeting e.kind (kept_fault left) old new (subst (λ h. StopsScram h e.kind (kept_fault left) old new) is (costs, stopped))
 
   -- what a login by SCRAM promises is what its conversation does
   pub scram_converses : {L : Type 0} (state : L → State) (link link' : L) (before after : ℤ) (buffer buffer' : FrameBuffer) (r : Result (Unit {0}) Error) (early late : Ledgers) → kept_fault opened ≡ None
-      → EndsByScram state handed r (standing opened link before buffer) (standing left link' after buffer') early late → Converses r (Scram version) asked credential round opened left (balance (state link) before early) (balance (state link') after late)
+      → EndsByScram state handed r (standing opened link before buffer) (standing left link' after buffer') early late → Converses r (Scram version) setup credential round opened left (balance (state link) before early) (balance (state link') after late)
   scram_converses state link link' before after buffer buffer' r early late faultless login = record {
     accepted = λ greeting described went. scram_done greeting r buffer' _ _ described went login.accepted;
     refused = λ greeting described went. scram_failed greeting r _ _ described went (login.refused faultless) (login.script.stops.refused faultless);
@@ -105,34 +105,34 @@ module _ (version : ScramVersion) (asked : Asked) (credential : Credential) (rou
 
 -- The steps of what it was handed are those of its plan, by each greeting that says what the connection holds and what the first
 -- round is.
-abbrev pub IsPartBy : {A : Type 0} → Plan A → Conversation → Asked → Credential → Option StreamDescription → Option AnsweredRound → Type 0
-IsPartBy plan conversation asked credential held round =
-    (greeting : Greeting) → held ≡ Some greeting.description → IsRoundBy (Some conversation) credential asked greeting round → (past : List Event) (turn : Turn Greeting) → followed plan greeting past turn → conversation_plan conversation asked credential greeting past turn
+abbrev pub IsPartBy : {A : Type 0} → Plan A → Conversation → Setup → Credential → Option StreamDescription → Option AnsweredRound → Type 0
+IsPartBy plan conversation setup credential held round =
+    (greeting : Greeting) → held ≡ Some greeting.description → IsRoundBy (Some conversation) credential setup greeting round → (past : List Event) (turn : Turn Greeting) → followed plan greeting past turn → conversation_plan conversation setup credential greeting past turn
 
-module _ (own conversation : Conversation) (is : conversation ≡ own) (free : scram_in (Some own) ≡ None) (asked : Asked) (credential : Credential) (round : Option AnsweredRound) (opened left : Connection) {A : Type 0} (plan : Plan A) (part : IsPartBy plan own asked credential opened.stream_description round) where
-  free_done : (greeting : Greeting) (r : Result (Unit {0}) Error) (old new : Balance) → CostsNothing old.ledgers new.ledgers → opened.stream_description ≡ Some greeting.description → IsRoundBy (Some own) credential asked greeting round
-      → OnOk r ((answer : A) × Reached plan answer old.state new.state old.id new.id) → OnOk r (Conversed own asked credential greeting old new)
+module _ (own conversation : Conversation) (is : conversation ≡ own) (free : scram_in (Some own) ≡ None) (setup : Setup) (credential : Credential) (round : Option AnsweredRound) (opened left : Connection) {A : Type 0} (plan : Plan A) (part : IsPartBy plan own setup credential opened.stream_description round) where
+  free_done : (greeting : Greeting) (r : Result (Unit {0}) Error) (old new : Balance) → CostsNothing old.ledgers new.ledgers → opened.stream_description ≡ Some greeting.description → IsRoundBy (Some own) credential setup greeting round
+      → OnOk r ((answer : A) × Reached plan answer old.state new.state old.id new.id) → OnOk r (Conversed own setup credential greeting old new)
   free_done greeting (Ok done) old new nothing described went reached = record {
-    reached = reached_more (followed plan greeting) (conversation_plan own asked credential greeting) greeting old.state new.state old.id new.id (part greeting described went) (then_reached plan reached.0 greeting old.state new.state old.id new.id reached.1);
-    costs = subst (λ version. AcceptedCosts version asked credential greeting old new) (sym free) nothing;
+    reached = reached_more (followed plan greeting) (conversation_plan own setup credential greeting) greeting old.state new.state old.id new.id (part greeting described went) (then_reached plan reached.0 greeting old.state new.state old.id new.id reached.1);
+    costs = subst (λ version. AcceptedCosts version setup credential greeting old new) (sym free) nothing;
   }
   free_done greeting (Err e) old new nothing described went reached = tt
 
-  free_failed : (greeting : Greeting) (r : Result (Unit {0}) Error) (old new : Balance) → CostsNothing old.ledgers new.ledgers → opened.stream_description ≡ Some greeting.description → IsRoundBy (Some own) credential asked greeting round
-      → IfErr r (λ e. StoppedKeeping plan e.kind old.state new.state old.id new.id (kept_fault left)) → IfErr r (λ e. ConversationStopped own asked credential greeting e.kind (kept_fault left) old new)
+  free_failed : (greeting : Greeting) (r : Result (Unit {0}) Error) (old new : Balance) → CostsNothing old.ledgers new.ledgers → opened.stream_description ≡ Some greeting.description → IsRoundBy (Some own) credential setup greeting round
+      → IfErr r (λ e. StoppedKeeping plan e.kind old.state new.state old.id new.id (kept_fault left)) → IfErr r (λ e. ConversationStopped own setup credential greeting e.kind (kept_fault left) old new)
   free_failed greeting (Ok done) old new nothing described went stopped = tt
   free_failed greeting (Err e) old new nothing described went stopped = record {
-    stopped = stopped_more (followed plan greeting) (conversation_plan own asked credential greeting) e.kind old.state new.state old.id new.id (part greeting described went) (then_stopped plan greeting e.kind old.state new.state old.id new.id stopped);
-    costs = subst (λ version. StoppedCosts version asked credential greeting e.kind old new) (sym free) nothing;
+    stopped = stopped_more (followed plan greeting) (conversation_plan own setup credential greeting) e.kind old.state new.state old.id new.id (part greeting described went) (then_stopped plan greeting e.kind old.state new.state old.id new.id stopped);
+    costs = subst (λ version. StoppedCosts version setup credential greeting e.kind old new) (sym free) nothing;
   }
 
   -- what a login that costs nothing promises is what its conversation does
   pub free_converses : {L : Type 0} (state : L → State) (IsLogin : List (List ℕ) → List (List ℕ) → Type 0) (maximum : ℤ) (link link' : L) (before after : ℤ) (buffer buffer' : FrameBuffer) (r : Result (Unit {0}) Error) (ledgers : Ledgers) → CostsNothing ledgers ledgers → kept_fault opened ≡ None
-      → EndsByScript state plan IsLogin maximum r (standing opened link before buffer) (standing left link' after buffer') → Converses r conversation asked credential round opened left (balance (state link) before ledgers) (balance (state link') after ledgers)
+      → EndsByScript state plan IsLogin maximum r (standing opened link before buffer) (standing left link' after buffer') → Converses r conversation setup credential round opened left (balance (state link) before ledgers) (balance (state link') after ledgers)
   free_converses state IsLogin maximum link link' before after buffer buffer' r ledgers nothing faultless login =
       let old = balance (state link) before ledgers in
       let new = balance (state link') after ledgers in
-      let answered : Converses r own asked credential round opened left old new = record {
+      let answered : Converses r own setup credential round opened left old new = record {
         accepted = λ greeting described went. free_done greeting r old new nothing described went login.accepted;
         refused = λ greeting described went. free_failed greeting r old new nothing described went (login.stops.refused faultless);
         faultless = login.faultless faultless;
@@ -140,16 +140,16 @@ module _ (own conversation : Conversation) (is : conversation ≡ own) (free : s
         counts = login.stops.counts;
         entries = on_refusal r _ nothing.entries;
       } in
-      subst (λ c. Converses r c asked credential round opened left old new) (sym is) answered
+      subst (λ c. Converses r c setup credential round opened left old new) (sym is) answered
 
 -- ---- PLAIN and X.509
 
-module _ (asked : Asked) (credential : Credential) (held : Option StreamDescription) (round : Option AnsweredRound) (api : Option ServerApi) (same : api ≡ asked.options.auth_options.server_api) where
-  pub plain_part : IsPartBy (plain_plan (plain_handed credential api (frame_maximum held))) PlainText asked credential held round
+module _ (setup : Setup) (credential : Credential) (held : Option StreamDescription) (round : Option AnsweredRound) (api : Option ServerApi) (same : api ≡ setup.options.auth_options.server_api) where
+  pub plain_part : IsPartBy (plain_plan (plain_handed credential api (frame_maximum held))) PlainText setup credential held round
   unfolding conversation_plan
   plain_part greeting described went past turn h = subst (λ x. followed (plain_plan x) greeting past turn) (λ i. plain_handed credential (same i) (frame_maximum (described i))) h
 
-  pub x509_part : (speculated : Bool) → speculated ≡ is_some round → IsPartBy (x509_plan (x509_handed credential api speculated (frame_maximum held))) X509 asked credential held round
+  pub x509_part : (speculated : Bool) → speculated ≡ is_some round → IsPartBy (x509_plan (x509_handed credential api speculated (frame_maximum held))) X509 setup credential held round
   unfolding conversation_plan
   x509_part speculated is greeting described went past turn h =
       let there = is ∙ went.there in

@@ -8,7 +8,7 @@ use Rattle.mongo_scram.specs.Cache.{entries_of, rounds_of}
 use Rattle.mongo_scram.specs.Costs.{Ledgers, Balance, balance, HasEntry, Counts, Derives, SameEntries, CostsNothing}
 use Rattle.mongo_establish.specs.declared.establisher.EstablishError.{EstablishError}
 use Rattle.mongo_establish.specs.declared.establisher.PooledConnection.{PooledConnection}
-use Rattle.mongo_establish.specs.Asked.{Asked}
+use Rattle.mongo_establish.specs.Setup.{Setup}
 use Rattle.mongo_establish.specs.Established.{Established}
 use Rattle.mongo_establish.specs.Derivation.{LeadsToKey}
 use Rattle.mongo_establish.specs.KeyCosts.{TakesKey, AcceptedTakes, RefusedTakes, TakesAsLed}
@@ -55,13 +55,13 @@ spent_some plan kind old new s =
     ]
 
 -- however an establishment came out
-pub costs_some : (r : Result PooledConnection EstablishError) (asked : Asked) (old new : State) (after : ℤ) (first last : Ledgers) → IfOk r (Established asked old new after first last)
-    → IfErr r (λ e. StoppedIn e.handshake_phase asked e.cause.kind old new after first last) → CostsSome first last
-costs_some (Ok pooled) asked old new after first last made refused = taken_some _ _ _ (handshake_taken asked made.script.greeting (balance old asked.first_id first) (balance new after last) made.costs)
-costs_some (Err e) asked old new after first last made refused =
-    elim (establishment_spent e.handshake_phase asked e.cause.kind old new after first last refused) [
-      | inl spent ↦ spent_some _ e.cause.kind (balance old asked.first_id first) (balance new after last) spent
-      | inr unnamed ↦ taken_some _ _ _ (handshake_taken asked unnamed.1.0 (balance old asked.first_id first) (balance new after last) unnamed.1.1)
+pub costs_some : (r : Result PooledConnection EstablishError) (setup : Setup) (old new : State) (after : ℤ) (first last : Ledgers) → IfOk r (Established setup old new after first last)
+    → IfErr r (λ e. StoppedIn e.handshake_phase setup e.cause.kind old new after first last) → CostsSome first last
+costs_some (Ok pooled) setup old new after first last made refused = taken_some _ _ _ (handshake_taken setup made.script.greeting (balance old setup.first_id first) (balance new after last) made.costs)
+costs_some (Err e) setup old new after first last made refused =
+    elim (establishment_spent e.handshake_phase setup e.cause.kind old new after first last refused) [
+      | inl spent ↦ spent_some _ e.cause.kind (balance old setup.first_id first) (balance new after last) spent
+      | inr unnamed ↦ taken_some _ _ _ (handshake_taken setup unnamed.1.0 (balance old setup.first_id first) (balance new after last) unnamed.1.1)
     ]
 
 -- the counter never falls
@@ -101,5 +101,5 @@ taken_keys key first last takes other =
 -- ---- over told bytes
 
 -- a key that the bytes lead to is the one that was taken
-pub taken_as_led : (asked : Asked) (bytes : List ℕ) (takes : Option SaltedKey → Type 0) (key : Option SaltedKey) → TakesAsLed asked bytes takes → LeadsToKey asked bytes key → takes key
-taken_as_led asked bytes takes key t led = subst takes (one_led_key asked bytes t.key key t.leads led) t.taken
+pub taken_as_led : (setup : Setup) (bytes : List ℕ) (takes : Option SaltedKey → Type 0) (key : Option SaltedKey) → TakesAsLed setup bytes takes → LeadsToKey setup bytes key → takes key
+taken_as_led setup bytes takes key t led = subst takes (one_led_key setup bytes t.key key t.leads led) t.taken

@@ -12,7 +12,7 @@ use Rattle.mongo_scram.specs.Plan.{opening}
 use Rattle.mongo_scram.proofs.ScramPlan.{one_opening}
 use Rattle.mongo_establish.specs.declared.conversation.Conversation.{Conversation}
 use Rattle.mongo_establish.specs.declared.conversation.Conversation.TheVariants.{Scram}
-use Rattle.mongo_establish.specs.Asked.{Asked}
+use Rattle.mongo_establish.specs.Setup.{Setup}
 use Rattle.mongo_establish.specs.Derivation.{scram_derivation, derivation_by, derivation_of, login_derivation, derivation_plan, key_in, LeadsToKey}
 use Rattle.mongo_establish.specs.Greeting.{Greeting}
 use Rattle.mongo_establish.specs.Login.{logging_in, speculative_reply, scram_handed_by}
@@ -24,27 +24,27 @@ use Rattle.mongo_establish.proofs.Validated.{one_invalid_row}
 
 -- ---- one turn
 
-one_scram_derivation : (version : ScramVersion) (asked : Asked) (credential : Credential) (greeting : Greeting) → HasOneTurn (scram_derivation version asked credential greeting)
-one_scram_derivation version asked credential greeting =
-    let handed = scram_handed_by version asked credential greeting in
+one_scram_derivation : (version : ScramVersion) (setup : Setup) (credential : Credential) (greeting : Greeting) → HasOneTurn (scram_derivation version setup credential greeting)
+one_scram_derivation version setup credential greeting =
+    let handed = scram_handed_by version setup credential greeting in
     one_followed (opening handed) (λ challenge. ending (Some (key_by handed challenge))) (one_opening handed) (λ challenge. one_ending (Some (key_by handed challenge)))
 
-one_derivation_by : (conversation : Option Conversation) (mechanism : AuthMechanism) (asked : Asked) (credential : Credential) (greeting : Greeting) → HasOneTurn (derivation_by conversation mechanism asked credential greeting)
+one_derivation_by : (conversation : Option Conversation) (mechanism : AuthMechanism) (setup : Setup) (credential : Credential) (greeting : Greeting) → HasOneTurn (derivation_by conversation mechanism setup credential greeting)
 unfolding derivation_by
-one_derivation_by (Some (Scram version)) mechanism asked credential greeting = one_unless _ _ (one_invalid_row (speculative_reply asked greeting) mechanism credential) (one_scram_derivation version asked credential greeting)
-one_derivation_by conversation mechanism asked credential greeting = one_ending None
+one_derivation_by (Some (Scram version)) mechanism setup credential greeting = one_unless _ _ (one_invalid_row (speculative_reply setup greeting) mechanism credential) (one_scram_derivation version setup credential greeting)
+one_derivation_by conversation mechanism setup credential greeting = one_ending None
 
-one_derivation_of : (who : Option Credential) (asked : Asked) (greeting : Greeting) → HasOneTurn (derivation_of who asked greeting)
-one_derivation_of None asked greeting = one_ending None
-one_derivation_of (Some credential) asked greeting =
-    one_reading _ _ (one_mechanism credential.mechanism (speculative_reply asked greeting) greeting.description) (λ mechanism. one_derivation_by (conversation_of mechanism) mechanism asked credential greeting)
+one_derivation_of : (who : Option Credential) (setup : Setup) (greeting : Greeting) → HasOneTurn (derivation_of who setup greeting)
+one_derivation_of None setup greeting = one_ending None
+one_derivation_of (Some credential) setup greeting =
+    one_reading _ _ (one_mechanism credential.mechanism (speculative_reply setup greeting) greeting.description) (λ mechanism. one_derivation_by (conversation_of mechanism) mechanism setup credential greeting)
 
-pub one_derivation : (asked : Asked) → HasOneTurn (derivation_plan asked)
+pub one_derivation : (setup : Setup) → HasOneTurn (derivation_plan setup)
 unfolding derivation_plan login_derivation
-one_derivation asked = one_followed (hello_plan asked) (login_derivation asked) (one_hello asked) (λ greeting. one_derivation_of (logging_in asked greeting) asked greeting)
+one_derivation setup = one_followed (hello_plan setup) (login_derivation setup) (one_hello setup) (λ greeting. one_derivation_of (logging_in setup greeting) setup greeting)
 
 -- reply bytes lead to one key
-pub one_led_key : (asked : Asked) (bytes : List ℕ) (key other : Option SaltedKey) → LeadsToKey asked bytes key → LeadsToKey asked bytes other → key ≡ other
-one_led_key asked bytes key other p q =
-    let same = one_way (derivation_plan asked) bytes p.outcome q.outcome p.commands q.commands p.taken p.unread q.taken q.unread (one_derivation asked) p.leads q.leads in
+pub one_led_key : (setup : Setup) (bytes : List ℕ) (key other : Option SaltedKey) → LeadsToKey setup bytes key → LeadsToKey setup bytes other → key ≡ other
+one_led_key setup bytes key other p q =
+    let same = one_way (derivation_plan setup) bytes p.outcome q.outcome p.commands q.commands p.taken p.unread q.taken q.unread (one_derivation setup) p.leads q.leads in
     p.key_is ∙ ap key_in same.outcome_same ∙ sym q.key_is

@@ -14,7 +14,7 @@ use Rattle.mongo_scram.specs.Costs.{Ledgers, balance}
 use Rattle.mongo_establish.specs.declared.establisher.HandshakePhase.{HandshakePhase}
 use Rattle.mongo_establish.specs.declared.establisher.HandshakePhase.TheVariants.{PreHello, PostHello}
 use Rattle.mongo_establish.specs.declared.generation.ConnectionGeneration.{ConnectionGeneration}
-use Rattle.mongo_establish.specs.Asked.{Asked}
+use Rattle.mongo_establish.specs.Setup.{Setup}
 use Rattle.mongo_establish.specs.Established.{StoppedHandshake}
 use Rattle.mongo_establish.specs.Generation.{generation_of}
 use Rattle.mongo_establish.specs.Greeting.{Greeting}
@@ -28,53 +28,53 @@ use Rattle.mongo_establish.proofs.EstablishedScript.{handshake_reached, script_l
 -- ---- what was stopped
 
 -- a hello that was stopped is a handshake that was
-hello_stops : (asked : Asked) (kind : ErrorKind) (old new : State) (after : ℤ) → Stopped (hello_plan asked) kind old new asked.first_id after → Stopped (handshake_plan asked) kind old new asked.first_id after
+hello_stops : (setup : Setup) (kind : ErrorKind) (old new : State) (after : ℤ) → Stopped (hello_plan setup) kind old new setup.first_id after → Stopped (handshake_plan setup) kind old new setup.first_id after
 unfolding handshake_plan
-hello_stops asked kind old new after s = (s.0, stopped_first (hello_plan asked) (login_plan asked) kind old new asked.first_id after s.1)
+hello_stops setup kind old new after s = (s.0, stopped_first (hello_plan setup) (login_plan setup) kind old new setup.first_id after s.1)
 
 -- and so is a login after its hello
-login_stops : (asked : Asked) (greeting : Greeting) (kind : ErrorKind) (old middle new : State) (between after : ℤ) → Reached (hello_plan asked) greeting old middle asked.first_id between → Stopped (login_plan asked greeting) kind middle new between after → Stopped (handshake_plan asked) kind old new asked.first_id after
+login_stops : (setup : Setup) (greeting : Greeting) (kind : ErrorKind) (old middle new : State) (between after : ℤ) → Reached (hello_plan setup) greeting old middle setup.first_id between → Stopped (login_plan setup greeting) kind middle new between after → Stopped (handshake_plan setup) kind old new setup.first_id after
 unfolding handshake_plan
-login_stops asked greeting kind old middle new between after hello s = (s.0, stopped_second (hello_plan asked) (login_plan asked) greeting kind old middle new asked.first_id between after hello s.1)
+login_stops setup greeting kind old middle new between after hello s = (s.0, stopped_second (hello_plan setup) (login_plan setup) greeting kind old middle new setup.first_id between after hello s.1)
 
 -- whatever part of a handshake was stopped
-pub shaking_stops : (asked : Asked) (opened connection : Connection) (kind : ErrorKind) (old new : State) (after : ℤ) (first last : Ledgers) → StoppedHandshake asked opened connection kind old new after first last → Stopped (handshake_plan asked) kind old new asked.first_id after
-shaking_stops asked opened connection kind old new after first last s =
+pub shaking_stops : (setup : Setup) (opened connection : Connection) (kind : ErrorKind) (old new : State) (after : ℤ) (first last : Ledgers) → StoppedHandshake setup opened connection kind old new after first last → Stopped (handshake_plan setup) kind old new setup.first_id after
+shaking_stops setup opened connection kind old new after first last s =
     elim s [
-      | inl h ↦ hello_stops asked kind old new after (kept_fault connection, h.hello)
-      | inr l ↦ login_stops asked l.greeting kind old l.middle new l.between after l.hello (kept_fault connection, l.login)
+      | inl h ↦ hello_stops setup kind old new after (kept_fault connection, h.hello)
+      | inr l ↦ login_stops setup l.greeting kind old l.middle new l.between after l.hello (kept_fault connection, l.login)
     ]
 
 -- the establishment was stopped with its handshake
-pub handshake_stops : (asked : Asked) (kind : ErrorKind) (old new : State) (after : ℤ) → Stopped (handshake_plan asked) kind old new asked.first_id after → Stopped (establishment_plan asked) kind old new asked.first_id after
+pub handshake_stops : (setup : Setup) (kind : ErrorKind) (old new : State) (after : ℤ) → Stopped (handshake_plan setup) kind old new setup.first_id after → Stopped (establishment_plan setup) kind old new setup.first_id after
 unfolding establishment_plan
-handshake_stops asked kind old new after s = (s.0, stopped_first (handshake_plan asked) (service_plan asked) kind old new asked.first_id after s.1)
+handshake_stops setup kind old new after s = (s.0, stopped_first (handshake_plan setup) (service_plan setup) kind old new setup.first_id after s.1)
 
 -- or at its end
-service_stops : (asked : Asked) (greeting : Greeting) (kind : ErrorKind) (old middle new : State) (between after : ℤ) (first last : Ledgers) → Reached (hello_plan asked) greeting old middle asked.first_id between → UnnamedAfterLogin asked greeting kind (balance middle between first) (balance new after last)
-    → Stopped (establishment_plan asked) kind old new asked.first_id after
+service_stops : (setup : Setup) (greeting : Greeting) (kind : ErrorKind) (old middle new : State) (between after : ℤ) (first last : Ledgers) → Reached (hello_plan setup) greeting old middle setup.first_id between → UnnamedAfterLogin setup greeting kind (balance middle between first) (balance new after last)
+    → Stopped (establishment_plan setup) kind old new setup.first_id after
 unfolding establishment_plan
-service_stops asked greeting kind old middle new between after first last hello u =
-    (None, stopped_second (handshake_plan asked) (service_plan asked) greeting kind old new new asked.first_id after after (handshake_reached asked greeting old middle new between after hello u.login) (stopped_row _ _ kind new after u.unnamed))
+service_stops setup greeting kind old middle new between after first last hello u =
+    (None, stopped_second (handshake_plan setup) (service_plan setup) greeting kind old new new setup.first_id after after (handshake_reached setup greeting old middle new between after hello u.login) (stopped_row _ _ kind new after u.unnamed))
 
 -- whatever part of an establishment was stopped
-pub stopped_whole : (phase : HandshakePhase) (asked : Asked) (kind : ErrorKind) (old new : State) (after : ℤ) (first last : Ledgers) → StoppedIn phase asked kind old new after first last → Stopped (establishment_plan asked) kind old new asked.first_id after
-stopped_whole (PreHello generation) asked kind old new after first last r = handshake_stops asked kind old new after (hello_stops asked kind old new after r.1)
-stopped_whole (PostHello generation) asked kind old new after first last r =
+pub stopped_whole : (phase : HandshakePhase) (setup : Setup) (kind : ErrorKind) (old new : State) (after : ℤ) (first last : Ledgers) → StoppedIn phase setup kind old new after first last → Stopped (establishment_plan setup) kind old new setup.first_id after
+stopped_whole (PreHello generation) setup kind old new after first last r = handshake_stops setup kind old new after (hello_stops setup kind old new after r.1)
+stopped_whole (PostHello generation) setup kind old new after first last r =
     elim r.stopped [
-      | inl s ↦ handshake_stops asked kind old new after (login_stops asked r.greeting kind old r.middle new r.between after r.hello s.login)
-      | inr u ↦ service_stops asked r.greeting kind old r.middle new r.between after first last r.hello u
+      | inl s ↦ handshake_stops setup kind old new after (login_stops setup r.greeting kind old r.middle new r.between after r.hello s.login)
+      | inr u ↦ service_stops setup r.greeting kind old r.middle new r.between after first last r.hello u
     ]
 
 -- ---- what an answer says, where the link doesn't fail
 
 -- over bytes left that begin with a script's replies, only memory is wanted
-pub establishment_only_memory : {T E : Type 0} (answer : Result T E) (kind_of : E → ErrorKind) (asked : Asked) (old new : State) (after : ℤ) → IfErr answer (λ e. Stopped (establishment_plan asked) (kind_of e) old new asked.first_id after)
-    → (bytes : List ℕ) → old.left ≡ Some bytes → HasScript asked bytes → Unfailed old new → IfErr answer (λ e. kind_of e ≡ OutOfMemory)
-establishment_only_memory (Ok x) kind_of asked old new after stops bytes is script unfailed = tt
-establishment_only_memory (Err e) kind_of asked old new after stops bytes is script unfailed =
-    let l = script_leads asked bytes script in
-    elim (only_refusal (establishment_plan asked) (kind_of e) (ends script.script.greeting) old new asked.first_id after bytes l.commands script.taken script.rest (one_establishment asked) stops is l.whole unfailed) [
+pub establishment_only_memory : {T E : Type 0} (answer : Result T E) (kind_of : E → ErrorKind) (setup : Setup) (old new : State) (after : ℤ) → IfErr answer (λ e. Stopped (establishment_plan setup) (kind_of e) old new setup.first_id after)
+    → (bytes : List ℕ) → old.left ≡ Some bytes → HasScript setup bytes → Unfailed old new → IfErr answer (λ e. kind_of e ≡ OutOfMemory)
+establishment_only_memory (Ok x) kind_of setup old new after stops bytes is script unfailed = tt
+establishment_only_memory (Err e) kind_of setup old new after stops bytes is script unfailed =
+    let l = script_leads setup bytes script in
+    elim (only_refusal (establishment_plan setup) (kind_of e) (ends script.script.greeting) old new setup.first_id after bytes l.commands script.taken script.rest (one_establishment setup) stops is l.whole unfailed) [
       | inl memory ↦ memory
       | inr same ↦ let e = same.0 in let no : ⊥ = cc in absurd no
     ]
@@ -88,24 +88,24 @@ only_refused (Err e) kind_of plan old new before after one stops bytes taken unr
     only_refusal plan (kind_of e) outcome old new before after bytes commands taken unread one stops is leads unfailed
 
 -- a refusal that was met, and what it left
-pub record RefusedBy (phase : HandshakePhase) (asked : Asked) (bytes : List ℕ) (kind : ErrorKind) (old new : State) (after : ℤ) : Type 0 where
+pub record RefusedBy (phase : HandshakePhase) (setup : Setup) (bytes : List ℕ) (kind : ErrorKind) (old new : State) (after : ℤ) : Type 0 where
   pub refusal : Refusal
   pub phase_is : refusal.phase ≡ phase
   pub kind_is : refusal.kind ≡ kind
-  pub is_refusal : IsRefusal asked bytes refusal
+  pub is_refusal : IsRefusal setup bytes refusal
   pub joined : bytes ≡ refusal.taken ++ refusal.unread
-  pub left_by : LeftBy refusal.commands refusal.unread old new asked.first_id after
+  pub left_by : LeftBy refusal.commands refusal.unread old new setup.first_id after
 
-past_hello : (generation : ConnectionGeneration) (asked : Asked) (kind : ErrorKind) (old new : State) (after : ℤ) (first last : Ledgers) (bytes : List ℕ) → StoppedAfterHello asked generation kind old new after first last → old.left ≡ Some bytes → LeadsPastHello asked bytes generation
-past_hello generation asked kind old new after first last bytes r is =
-    let l = reached_led (hello_plan asked) r.greeting old r.middle asked.first_id r.between bytes r.hello is in
+past_hello : (generation : ConnectionGeneration) (setup : Setup) (kind : ErrorKind) (old new : State) (after : ℤ) (first last : Ledgers) (bytes : List ℕ) → StoppedAfterHello setup generation kind old new after first last → old.left ≡ Some bytes → LeadsPastHello setup bytes generation
+past_hello generation setup kind old new after first last bytes r is =
+    let l = reached_led (hello_plan setup) r.greeting old r.middle setup.first_id r.between bytes r.hello is in
     record { greeting = r.greeting; commands = l.commands; taken = l.taken; unread = l.unread; leads = l.leads; generation_is = r.generation_is }
 
 -- where the link didn't fail, memory was wanted or the bytes lead to the refusal
-pub stopped_refusal : (phase : HandshakePhase) (asked : Asked) (kind : ErrorKind) (old new : State) (after : ℤ) (first last : Ledgers) (bytes : List ℕ) → StoppedIn phase asked kind old new after first last → old.left ≡ Some bytes → Unfailed old new
-    → (kind ≡ OutOfMemory) ⊎ RefusedBy phase asked bytes kind old new after
-stopped_refusal (PreHello generation) asked kind old new after first last bytes r is unfailed =
-    elim (stopped_led (hello_plan asked) kind old new asked.first_id after bytes r.1.1 is unfailed) [
+pub stopped_refusal : (phase : HandshakePhase) (setup : Setup) (kind : ErrorKind) (old new : State) (after : ℤ) (first last : Ledgers) (bytes : List ℕ) → StoppedIn phase setup kind old new after first last → old.left ≡ Some bytes → Unfailed old new
+    → (kind ≡ OutOfMemory) ⊎ RefusedBy phase setup bytes kind old new after
+stopped_refusal (PreHello generation) setup kind old new after first last bytes r is unfailed =
+    elim (stopped_led (hello_plan setup) kind old new setup.first_id after bytes r.1.1 is unfailed) [
       | inl memory ↦ inl memory
       | inr l ↦ inr (record {
         refusal = record { phase = PreHello generation; kind = kind; commands = l.commands; taken = l.taken; unread = l.unread };
@@ -116,14 +116,14 @@ stopped_refusal (PreHello generation) asked kind old new after first last bytes 
         left_by = l.left_by;
       })
     ]
-stopped_refusal (PostHello generation) asked kind old new after first last bytes r is unfailed =
-    elim (stopped_led (establishment_plan asked) kind old new asked.first_id after bytes (stopped_whole (PostHello generation) asked kind old new after first last r).1 is unfailed) [
+stopped_refusal (PostHello generation) setup kind old new after first last bytes r is unfailed =
+    elim (stopped_led (establishment_plan setup) kind old new setup.first_id after bytes (stopped_whole (PostHello generation) setup kind old new after first last r).1 is unfailed) [
       | inl memory ↦ inl memory
       | inr l ↦ inr (record {
         refusal = record { phase = PostHello generation; kind = kind; commands = l.commands; taken = l.taken; unread = l.unread };
         phase_is = refl;
         kind_is = refl;
-        is_refusal = (past_hello generation asked kind old new after first last bytes r is, l.leads);
+        is_refusal = (past_hello generation setup kind old new after first last bytes r is, l.leads);
         joined = l.leads.joined;
         left_by = l.left_by;
       })
@@ -132,13 +132,13 @@ stopped_refusal (PostHello generation) asked kind old new after first last bytes
 -- ---- bytes lead to one thing
 
 -- bytes that have a script lead to no refusal
-pub script_unrefused : (asked : Asked) (bytes : List ℕ) (phase : HandshakePhase) (refusal : Refusal) → HasScript asked bytes → LeadsIn phase asked bytes refusal → ⊥
-script_unrefused asked bytes (PreHello generation) refusal script l =
-    let s = script_leads asked bytes script in
-    no_refusal (hello_plan asked) bytes script.script.greeting refusal.kind (hello_said asked ∷ []) refusal.commands s.first s.later refusal.taken refusal.unread (one_hello asked) s.hello l.1
-script_unrefused asked bytes (PostHello generation) refusal script l =
-    let s = script_leads asked bytes script in
-    no_refusal (establishment_plan asked) bytes script.script.greeting refusal.kind s.commands refusal.commands script.taken script.rest refusal.taken refusal.unread (one_establishment asked) s.whole l.1
+pub script_unrefused : (setup : Setup) (bytes : List ℕ) (phase : HandshakePhase) (refusal : Refusal) → HasScript setup bytes → LeadsIn phase setup bytes refusal → ⊥
+script_unrefused setup bytes (PreHello generation) refusal script l =
+    let s = script_leads setup bytes script in
+    no_refusal (hello_plan setup) bytes script.script.greeting refusal.kind (hello_said setup ∷ []) refusal.commands s.first s.later refusal.taken refusal.unread (one_hello setup) s.hello l.1
+script_unrefused setup bytes (PostHello generation) refusal script l =
+    let s = script_leads setup bytes script in
+    no_refusal (establishment_plan setup) bytes script.script.greeting refusal.kind s.commands refusal.commands script.taken script.rest refusal.taken refusal.unread (one_establishment setup) s.whole l.1
 
 same_end : (a b : Greeting) → ◌≡◌ {A = Turn Greeting} (ends a) (ends b) → a ≡ b
 same_end a b e = cc
@@ -147,47 +147,47 @@ same_kind : (a b : ErrorKind) → ◌≡◌ {A = Turn Greeting} (refuses a) (ref
 same_kind a b e = cc
 
 -- what two scripts of the bytes agree in
-pub record SameScript (asked : Asked) (bytes : List ℕ) (h k : HasScript asked bytes) : Type 0 where
+pub record SameScript (setup : Setup) (bytes : List ℕ) (h k : HasScript setup bytes) : Type 0 where
   pub greeting : h.script.greeting ≡ k.script.greeting
   pub taken : h.taken ≡ k.taken
   pub sent : h.sent ≡ k.sent
 
-pub one_script : (asked : Asked) (bytes : List ℕ) (h k : HasScript asked bytes) → SameScript asked bytes h k
-one_script asked bytes h k =
-    let l = script_leads asked bytes h in
-    let m = script_leads asked bytes k in
-    let same = one_way (establishment_plan asked) bytes (ends h.script.greeting) (ends k.script.greeting) l.commands m.commands h.taken h.rest k.taken k.rest (one_establishment asked) l.whole m.whole in
+pub one_script : (setup : Setup) (bytes : List ℕ) (h k : HasScript setup bytes) → SameScript setup bytes h k
+one_script setup bytes h k =
+    let l = script_leads setup bytes h in
+    let m = script_leads setup bytes k in
+    let same = one_way (establishment_plan setup) bytes (ends h.script.greeting) (ends k.script.greeting) l.commands m.commands h.taken h.rest k.taken k.rest (one_establishment setup) l.whole m.whole in
     record {
       greeting = same_end h.script.greeting k.script.greeting same.outcome_same;
       taken = same.taken_same;
-      sent = one_said m.commands asked.first_id h.sent k.sent (subst (λ c. IsSaid c asked.first_id h.sent) same.commands_same l.said) m.said;
+      sent = one_said m.commands setup.first_id h.sent k.sent (subst (λ c. IsSaid c setup.first_id h.sent) same.commands_same l.said) m.said;
     }
 
 -- the bytes lead to one refusal
-pub record SameRefusal (asked : Asked) (refusal other : Refusal) : Type 0 where
+pub record SameRefusal (setup : Setup) (refusal other : Refusal) : Type 0 where
   pub kind : refusal.kind ≡ other.kind
   pub commands : refusal.commands ≡ other.commands
   pub taken : refusal.taken ≡ other.taken
 
-same_refusal : (asked : Asked) (bytes : List ℕ) (plan : Plan Greeting) (refusal other : Refusal) → HasOneTurn plan
-    → Leads plan bytes (refuses refusal.kind) refusal.commands refusal.taken refusal.unread → Leads plan bytes (refuses other.kind) other.commands other.taken other.unread → SameRefusal asked refusal other
-same_refusal asked bytes plan refusal other one l m =
+same_refusal : (setup : Setup) (bytes : List ℕ) (plan : Plan Greeting) (refusal other : Refusal) → HasOneTurn plan
+    → Leads plan bytes (refuses refusal.kind) refusal.commands refusal.taken refusal.unread → Leads plan bytes (refuses other.kind) other.commands other.taken other.unread → SameRefusal setup refusal other
+same_refusal setup bytes plan refusal other one l m =
     let same = one_way plan bytes (refuses refusal.kind) (refuses other.kind) refusal.commands other.commands refusal.taken refusal.unread other.taken other.unread one l m in
     record { kind = same_kind refusal.kind other.kind same.outcome_same; commands = same.commands_same; taken = same.taken_same }
 
-same_generation : (asked : Asked) (bytes : List ℕ) (generation other : ConnectionGeneration) → LeadsPastHello asked bytes generation → LeadsPastHello asked bytes other → generation ≡ other
-same_generation asked bytes generation other p q =
-    let outcome = (one_way (hello_plan asked) bytes (ends p.greeting) (ends q.greeting) p.commands q.commands p.taken p.unread q.taken q.unread (one_hello asked) p.leads q.leads).outcome_same in
+same_generation : (setup : Setup) (bytes : List ℕ) (generation other : ConnectionGeneration) → LeadsPastHello setup bytes generation → LeadsPastHello setup bytes other → generation ≡ other
+same_generation setup bytes generation other p q =
+    let outcome = (one_way (hello_plan setup) bytes (ends p.greeting) (ends q.greeting) p.commands q.commands p.taken p.unread q.taken q.unread (one_hello setup) p.leads q.leads).outcome_same in
     let same = same_end p.greeting q.greeting outcome in
-    p.generation_is ∙ ap (λ g. generation_of asked.pending.generation g.description) same ∙ sym q.generation_is
+    p.generation_is ∙ ap (λ g. generation_of setup.pending.generation g.description) same ∙ sym q.generation_is
 
-no_two_phases : (asked : Asked) (bytes : List ℕ) (generation : ConnectionGeneration) (refusal : Refusal) → LeadsPastHello asked bytes generation → Leads (hello_plan asked) bytes (refuses refusal.kind) refusal.commands refusal.taken refusal.unread → ⊥
-no_two_phases asked bytes generation refusal p l =
-    no_refusal (hello_plan asked) bytes p.greeting refusal.kind p.commands refusal.commands p.taken p.unread refusal.taken refusal.unread (one_hello asked) p.leads l
+no_two_phases : (setup : Setup) (bytes : List ℕ) (generation : ConnectionGeneration) (refusal : Refusal) → LeadsPastHello setup bytes generation → Leads (hello_plan setup) bytes (refuses refusal.kind) refusal.commands refusal.taken refusal.unread → ⊥
+no_two_phases setup bytes generation refusal p l =
+    no_refusal (hello_plan setup) bytes p.greeting refusal.kind p.commands refusal.commands p.taken p.unread refusal.taken refusal.unread (one_hello setup) p.leads l
 
-pub one_refusal : (asked : Asked) (bytes : List ℕ) (phase late : HandshakePhase) (refusal other : Refusal) → LeadsIn phase asked bytes refusal → LeadsIn late asked bytes other → (phase ≡ late) × SameRefusal asked refusal other
-one_refusal asked bytes (PreHello g) (PreHello h) refusal other p q = (ap PreHello (p.0 ∙ sym q.0), same_refusal asked bytes (hello_plan asked) refusal other (one_hello asked) p.1 q.1)
-one_refusal asked bytes (PreHello g) (PostHello h) refusal other p q = absurd (no_two_phases asked bytes h refusal q.0 p.1)
-one_refusal asked bytes (PostHello g) (PreHello h) refusal other p q = absurd (no_two_phases asked bytes g other p.0 q.1)
-one_refusal asked bytes (PostHello g) (PostHello h) refusal other p q =
-    (ap PostHello (same_generation asked bytes g h p.0 q.0), same_refusal asked bytes (establishment_plan asked) refusal other (one_establishment asked) p.1 q.1)
+pub one_refusal : (setup : Setup) (bytes : List ℕ) (phase late : HandshakePhase) (refusal other : Refusal) → LeadsIn phase setup bytes refusal → LeadsIn late setup bytes other → (phase ≡ late) × SameRefusal setup refusal other
+one_refusal setup bytes (PreHello g) (PreHello h) refusal other p q = (ap PreHello (p.0 ∙ sym q.0), same_refusal setup bytes (hello_plan setup) refusal other (one_hello setup) p.1 q.1)
+one_refusal setup bytes (PreHello g) (PostHello h) refusal other p q = absurd (no_two_phases setup bytes h refusal q.0 p.1)
+one_refusal setup bytes (PostHello g) (PreHello h) refusal other p q = absurd (no_two_phases setup bytes g other p.0 q.1)
+one_refusal setup bytes (PostHello g) (PostHello h) refusal other p q =
+    (ap PostHello (same_generation setup bytes g h p.0 q.0), same_refusal setup bytes (establishment_plan setup) refusal other (one_establishment setup) p.1 q.1)

@@ -17,7 +17,7 @@ use Rattle.mongo_establish.specs.declared.conversation.Conversation.TheVariants.
 use Rattle.mongo_establish.specs.declared.client_first.ClientFirst.{ClientFirst}
 use Rattle.mongo_establish.specs.declared.client_first.ClientFirst.TheVariants.{Scram, X509}
 use Rattle.mongo_establish.specs.declared.answered_round.AnsweredRound.{AnsweredRound}
-use Rattle.mongo_establish.specs.Asked.{Asked}
+use Rattle.mongo_establish.specs.Setup.{Setup}
 use Rattle.mongo_establish.specs.First.{first_document, IsScramFirst, IsX509First, IsFirstIn, IsFirstMessage, IsUnmade, IsRoundOf, scram_round, round_with}
 use Rattle.mongo_establish.specs.Greeting.{Greeting}
 use Rattle.mongo_establish.specs.Speculation.{mechanism_before, ConversationRow, MechanismRow, speculation, speculation_by, speculation_in, scram_speculation, speculative_message, speculative_nonce, answer_to}
@@ -108,11 +108,11 @@ round_in : (conversation : Option Conversation) (credential : Credential) (nonce
 round_in (Some (ByScram version)) credential nonce first answer scram is = scram_made version credential nonce first answer is
 round_in conversation credential nonce first answer scram is = absurd scram
 
-pub round_of : (who : Option Credential) (asked : Asked) (greeting : Greeting) (first : Option ClientFirst) (round : Option AnsweredRound) → asked.credential ≡ who → IsFirstMessage who asked.nonces.first first
-    → is_some round ≡ is_some (answer_to (option_map first_document first) greeting.speculative) → speculated_of (scram_round round) ≡ round_with first greeting.speculative → IsRoundOf who asked greeting round
-round_of None asked greeting first round same is there by = tt
-round_of (Some credential) asked greeting first round same is there by =
-    let nonce = asked.nonces.first in
+pub round_of : (who : Option Credential) (setup : Setup) (greeting : Greeting) (first : Option ClientFirst) (round : Option AnsweredRound) → setup.credential ≡ who → IsFirstMessage who setup.nonces.first first
+    → is_some round ≡ is_some (answer_to (option_map first_document first) greeting.speculative) → speculated_of (scram_round round) ≡ round_with first greeting.speculative → IsRoundOf who setup greeting round
+round_of None setup greeting first round same is there by = tt
+round_of (Some credential) setup greeting first round same is there by =
+    let nonce = setup.nonces.first in
     record {
       there = there ∙ ap (λ login. is_some (answer_to login greeting.speculative)) (first_speculation (Some credential) nonce first is ∙ ap (λ w. speculation w nonce) (sym same));
       scram = λ scram.

@@ -17,7 +17,7 @@ use Rattle.mongo_establish.specs.declared.establisher.PendingConnection.{Pending
 use Rattle.mongo_establish.specs.declared.establisher.PooledConnection.{PooledConnection}
 use Rattle.mongo_establish.specs.declared.login_state.Nonces.{Nonces}
 use Rattle.mongo_establish.specs.declared.options.HandshakerOptions.{HandshakerOptions}
-use Rattle.mongo_establish.specs.Asked.{Asked, asked_for, asked_over}
+use Rattle.mongo_establish.specs.Setup.{Setup, setup_for, setup_over}
 use Rattle.mongo_establish.specs.Costs.{LoginCosts, HandshakeCosts}
 use Rattle.mongo_establish.specs.Established.{Describes, Established, IsDescribed, ShookHands, StoppedHandshake, StoppedHello, StoppedLogin}
 use Rattle.mongo_establish.specs.Generation.{NamesService, generation_of}
@@ -33,24 +33,24 @@ use Rattle.mongo_establish.proofs.EstablishedScript.{handshake_reached, script_b
 -- ---- the plans of a handshake
 
 -- the hello to this address, of a login that asks the same
-abbrev hello_at : Asked → ServerAddress → Plan Greeting
-hello_at asked address = unless (HelloRow asked.credential) (saying (hello_said asked) (after_hello address))
+abbrev hello_at : Setup → ServerAddress → Plan Greeting
+hello_at setup address = unless (HelloRow setup.credential) (saying (hello_said setup) (after_hello address))
 
 same_description : (a b : StreamDescription) → Some a ≡ Some b → a ≡ b
 same_description a b e = cc
 
 -- a fresh connection that holds what its server says
-pub is_described : (asked : Asked) (opened connection : Connection) (greeting : Greeting) → Describes opened connection greeting → opened.address ≡ asked.pending.address → opened.id ≡ asked.pending.id → opened.oidc_token_gen_id ≡ 0 → IsDescribed asked connection greeting
-is_described asked opened connection greeting d address number token =
+pub is_described : (setup : Setup) (opened connection : Connection) (greeting : Greeting) → Describes opened connection greeting → opened.address ≡ setup.pending.address → opened.id ≡ setup.pending.id → opened.oidc_token_gen_id ≡ 0 → IsDescribed setup connection greeting
+is_described setup opened connection greeting d address number token =
     let holds = d.holds in
     record { address = holds.address ∙ address; id = holds.id ∙ number; description_is = holds.description_is; server_id = holds.server_id; token = holds.token ∙ token; faultless = d.faultless }
 
 module _ (pending : PendingConnection) (options : HandshakerOptions) (credential : Option Credential) (nonces : Nonces) (id : ℤ) (opened : Connection) (same : opened.address ≡ pending.address) where
-  abbrev wanted : Asked
-  wanted = asked_for pending options credential nonces id
+  abbrev wanted : Setup
+  wanted = setup_for pending options credential nonces id
 
-  abbrev over : Asked
-  over = asked_over opened options credential nonces id
+  abbrev over : Setup
+  over = setup_over opened options credential nonces id
 
   pub hello_reached : (greeting : Greeting) (old new : State) (before after : ℤ) → Reached (hello_plan over) greeting old new before after → Reached (hello_plan wanted) greeting old new before after
   unfolding hello_plan

@@ -16,7 +16,7 @@ use Rattle.mongo_sasl.specs.declared.mechanism.AuthMechanism.TheVariants.{MongoD
 use Rattle.mongo_scram.proofs.OneRow.{one_credential_row}
 use Rattle.mongo_establish.specs.declared.conversation.Conversation.{Conversation}
 use Rattle.mongo_establish.specs.declared.conversation.Conversation.TheVariants.{Scram}
-use Rattle.mongo_establish.specs.Asked.{Asked}
+use Rattle.mongo_establish.specs.Setup.{Setup}
 use Rattle.mongo_establish.specs.Greeting.{Greeting, Greets}
 use Rattle.mongo_establish.specs.Plan.{hello_said, after_hello, hello_plan}
 use Rattle.mongo_establish.specs.Refusal.{SaidRow, DocumentRow}
@@ -71,37 +71,37 @@ one_hello_row (Some credential) = one_mechanism_row (mechanism_before credential
 one_after_hello : (address : ServerAddress) (reply : List ℕ) → HasOneTurn (after_hello address reply)
 one_after_hello address reply = one_unless _ _ (one_document_row reply) (one_reading _ _ (one_greeting address reply) one_ending)
 
-pub one_hello : (asked : Asked) → HasOneTurn (hello_plan asked)
+pub one_hello : (setup : Setup) → HasOneTurn (hello_plan setup)
 unfolding hello_plan
-one_hello asked = one_unless _ _ (one_hello_row asked.credential) (one_saying (hello_said asked) (after_hello asked.pending.address) (one_after_hello asked.pending.address))
+one_hello setup = one_unless _ _ (one_hello_row setup.credential) (one_saying (hello_said setup) (after_hello setup.pending.address) (one_after_hello setup.pending.address))
 
 -- where the hello's plan ended, the hello could be made, it was said, and its reply greets
-pub record IsGreeted (asked : Asked) (events : List Event) (greeting : Greeting) : Type 0 where
-  pub made : HasNone (HelloRow asked.credential)
+pub record IsGreeted (setup : Setup) (events : List Event) (greeting : Greeting) : Type 0 where
+  pub made : HasNone (HelloRow setup.credential)
   pub reply : List ℕ
-  pub events_are : events ≡ exchanged (hello_said asked) reply ∷ []
-  pub greets : Greets asked.pending.address reply greeting
+  pub events_are : events ≡ exchanged (hello_said setup) reply ∷ []
+  pub greets : Greets setup.pending.address reply greeting
 
-pub greeted : (asked : Asked) (events : List Event) (greeting : Greeting) → PlanEnds (hello_plan asked) events greeting → IsGreeted asked events greeting
+pub greeted : (setup : Setup) (events : List Event) (greeting : Greeting) → PlanEnds (hello_plan setup) events greeting → IsGreeted setup events greeting
 unfolding hello_plan
-greeted asked events greeting ended =
-    let address = asked.pending.address in
-    let made = ends_unless (HelloRow asked.credential) (saying (hello_said asked) (after_hello address)) events greeting ended in
-    let first = ends_saying (hello_said asked) (after_hello address) events greeting made.1 in
+greeted setup events greeting ended =
+    let address = setup.pending.address in
+    let made = ends_unless (HelloRow setup.credential) (saying (hello_said setup) (after_hello address)) events greeting ended in
+    let first = ends_saying (hello_said setup) (after_hello address) events greeting made.1 in
     let judged = ends_unless (DocumentRow first.reply) (reading (Greets address first.reply) ending) first.more greeting first.rest in
     let read = ends_reading (Greets address first.reply) ending first.more greeting (one_greeting address first.reply) judged.1 in
     let last = ends_ending read.0 first.more greeting read.2 in
     record {
       made = made.0;
       reply = first.reply;
-      events_are = first.events_are ∙ ap (λ x. exchanged (hello_said asked) first.reply ∷ x) last.0;
+      events_are = first.events_are ∙ ap (λ x. exchanged (hello_said setup) first.reply ∷ x) last.0;
       greets = subst (Greets address first.reply) (sym last.1) read.1;
     }
 
 -- a hello that could be made and was said, and a reply that greets, are an end of it
-pub greeting_ends : (asked : Asked) (reply : List ℕ) (greeting : Greeting) → HasNone (HelloRow asked.credential) → IsSendable (hello_said asked) → Greets asked.pending.address reply greeting → PlanEnds (hello_plan asked) (exchanged (hello_said asked) reply ∷ []) greeting
+pub greeting_ends : (setup : Setup) (reply : List ℕ) (greeting : Greeting) → HasNone (HelloRow setup.credential) → IsSendable (hello_said setup) → Greets setup.pending.address reply greeting → PlanEnds (hello_plan setup) (exchanged (hello_said setup) reply ∷ []) greeting
 unfolding hello_plan
-greeting_ends asked reply greeting made sendable greets = record {
+greeting_ends setup reply greeting made sendable greets = record {
   follows = (inr (made, refl), sendable, tt);
   answer_is = inr (made, inr (λ kind. no_row_of_reply reply kind greets.1.response greets.1.time greets.1.reads greets.1.taken, (greeting, greets, refl)));
 }

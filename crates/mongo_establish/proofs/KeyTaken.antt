@@ -29,7 +29,7 @@ use Rattle.mongo_establish.specs.declared.establisher.HandshakePhase.{HandshakeP
 use Rattle.mongo_establish.specs.declared.establisher.HandshakePhase.TheVariants.{PreHello, PostHello}
 use Rattle.mongo_establish.specs.declared.establisher.PooledConnection.{PooledConnection}
 use Rattle.mongo_establish.specs.declared.generation.PoolGeneration.{PoolGeneration}
-use Rattle.mongo_establish.specs.Asked.{Asked}
+use Rattle.mongo_establish.specs.Setup.{Setup}
 use Rattle.mongo_establish.specs.Costs.{AcceptedCosts, StoppedCosts, LoginCostsOf, StoppedLoginCostsOf, HandshakeCosts}
 use Rattle.mongo_establish.specs.Derivation.{derivation_by, derivation_of, login_derivation, derivation_plan}
 use Rattle.mongo_establish.specs.Established.{StoppedHandshake}
@@ -71,42 +71,42 @@ closing_takes handed kind old new is =
       | inr memory ↦ inr (memory.0, record { counts = memory.1; entries = is.entries })
     ]
 
-opening_reached : (version : ScramVersion) (mechanism : AuthMechanism) (asked : Asked) (credential : Credential) (greeting : Greeting) (c : Challenge) (old middle : State) (before between : ℤ) → HasNone (InvalidRow (speculative_reply asked greeting) mechanism credential)
-    → Reached (opening (scram_handed_by version asked credential greeting)) c old middle before between → Reached (derivation_by (Some (Scram version)) mechanism asked credential greeting) (Some (key_by (scram_handed_by version asked credential greeting) c)) old middle before between
+opening_reached : (version : ScramVersion) (mechanism : AuthMechanism) (setup : Setup) (credential : Credential) (greeting : Greeting) (c : Challenge) (old middle : State) (before between : ℤ) → HasNone (InvalidRow (speculative_reply setup greeting) mechanism credential)
+    → Reached (opening (scram_handed_by version setup credential greeting)) c old middle before between → Reached (derivation_by (Some (Scram version)) mechanism setup credential greeting) (Some (key_by (scram_handed_by version setup credential greeting) c)) old middle before between
 unfolding derivation_by
-opening_reached version mechanism asked credential greeting c old middle before between none r =
-    let handed = scram_handed_by version asked credential greeting in
+opening_reached version mechanism setup credential greeting c old middle before between none r =
+    let handed = scram_handed_by version setup credential greeting in
     reached_unless _ _ (Some (key_by handed c)) old middle before between none (reached_both (opening handed) (λ challenge. ending (Some (key_by handed challenge))) c (Some (key_by handed c)) old middle middle before between between r (reached_ending (Some (key_by handed c)) middle between))
 
-opening_stopped : (version : ScramVersion) (mechanism : AuthMechanism) (asked : Asked) (credential : Credential) (greeting : Greeting) (kind : ErrorKind) (old new : State) (before after : ℤ) → HasNone (InvalidRow (speculative_reply asked greeting) mechanism credential)
-    → Stopped (opening (scram_handed_by version asked credential greeting)) kind old new before after → Stopped (derivation_by (Some (Scram version)) mechanism asked credential greeting) kind old new before after
+opening_stopped : (version : ScramVersion) (mechanism : AuthMechanism) (setup : Setup) (credential : Credential) (greeting : Greeting) (kind : ErrorKind) (old new : State) (before after : ℤ) → HasNone (InvalidRow (speculative_reply setup greeting) mechanism credential)
+    → Stopped (opening (scram_handed_by version setup credential greeting)) kind old new before after → Stopped (derivation_by (Some (Scram version)) mechanism setup credential greeting) kind old new before after
 unfolding derivation_by
-opening_stopped version mechanism asked credential greeting kind old new before after none s =
-    let handed = scram_handed_by version asked credential greeting in
+opening_stopped version mechanism setup credential greeting kind old new before after none s =
+    let handed = scram_handed_by version setup credential greeting in
     (s.0, stopped_unless _ _ kind old new before after none (stopped_first (opening handed) (λ challenge. ending (Some (key_by handed challenge))) kind old new before after s.1))
 
-module _ (version : ScramVersion) (mechanism : AuthMechanism) (asked : Asked) (credential : Credential) (greeting : Greeting) (none : HasNone (InvalidRow (speculative_reply asked greeting) mechanism credential)) where
+module _ (version : ScramVersion) (mechanism : AuthMechanism) (setup : Setup) (credential : Credential) (greeting : Greeting) (none : HasNone (InvalidRow (speculative_reply setup greeting) mechanism credential)) where
   abbrev handed : Handed
-  handed = scram_handed_by version asked credential greeting
+  handed = scram_handed_by version setup credential greeting
 
-  scram_takes : (buffer : FrameBuffer) (old new : Balance) → Accepted handed buffer old new → KeyTaken (derivation_by (Some (Scram version)) mechanism asked credential greeting) old new
+  scram_takes : (buffer : FrameBuffer) (old new : Balance) → Accepted handed buffer old new → KeyTaken (derivation_by (Some (Scram version)) mechanism setup credential greeting) old new
   scram_takes buffer old new is = record {
     key = Some (key_by handed is.challenge);
     middle = is.middle;
     between = is.between;
-    reached = opening_reached version mechanism asked credential greeting is.challenge old.state is.middle old.id is.between none is.opened;
+    reached = opening_reached version mechanism setup credential greeting is.challenge old.state is.middle old.id is.between none is.opened;
     takes = accepted_takes handed buffer old new is;
   }
 
-  scram_spends : (kind : ErrorKind) (old new : Balance) → StoppedScram handed kind old new → KeySpent (derivation_by (Some (Scram version)) mechanism asked credential greeting) kind old new
+  scram_spends : (kind : ErrorKind) (old new : Balance) → StoppedScram handed kind old new → KeySpent (derivation_by (Some (Scram version)) mechanism setup credential greeting) kind old new
   scram_spends kind old new is =
       elim is [
-        | inl early ↦ inl (record { stopped = opening_stopped version mechanism asked credential greeting kind old.state new.state old.id new.id none early.0; nothing = early.1 })
+        | inl early ↦ inl (record { stopped = opening_stopped version mechanism setup credential greeting kind old.state new.state old.id new.id none early.0; nothing = early.1 })
         | inr late ↦ inr (record {
           key = Some (key_by handed late.challenge);
           middle = late.middle;
           between = late.between;
-          reached = opening_reached version mechanism asked credential greeting late.challenge old.state late.middle old.id late.between none late.opened;
+          reached = opening_reached version mechanism setup credential greeting late.challenge old.state late.middle old.id late.between none late.opened;
           takes = closing_takes handed kind old new late;
         })
       ]
@@ -143,42 +143,42 @@ nothing_taken old new nothing = record { key = None; middle = old.state; between
 nothing_spent : (kind : ErrorKind) (old new : Balance) → CostsNothing old.ledgers new.ledgers → KeySpent (ending None) kind old new
 nothing_spent kind old new nothing = inr (record { key = None; middle = old.state; between = old.id; reached = reached_ending None old.state old.id; takes = inl nothing })
 
-key_taken_by : (conversation : Option Conversation) (mechanism : AuthMechanism) (asked : Asked) (credential : Credential) (greeting : Greeting) (old new : Balance) → (IsScram conversation → HasNone (InvalidRow (speculative_reply asked greeting) mechanism credential))
-    → AcceptedCosts (scram_in conversation) asked credential greeting old new → KeyTaken (derivation_by conversation mechanism asked credential greeting) old new
+key_taken_by : (conversation : Option Conversation) (mechanism : AuthMechanism) (setup : Setup) (credential : Credential) (greeting : Greeting) (old new : Balance) → (IsScram conversation → HasNone (InvalidRow (speculative_reply setup greeting) mechanism credential))
+    → AcceptedCosts (scram_in conversation) setup credential greeting old new → KeyTaken (derivation_by conversation mechanism setup credential greeting) old new
 unfolding derivation_by
-key_taken_by (Some (Scram version)) mechanism asked credential greeting old new none c = scram_takes version mechanism asked credential greeting (none tt) c.buffer old new c.accepted
-key_taken_by conversation mechanism asked credential greeting old new none c = nothing_taken old new c
+key_taken_by (Some (Scram version)) mechanism setup credential greeting old new none c = scram_takes version mechanism setup credential greeting (none tt) c.buffer old new c.accepted
+key_taken_by conversation mechanism setup credential greeting old new none c = nothing_taken old new c
 
-spent_by : (conversation : Option Conversation) (mechanism : AuthMechanism) (asked : Asked) (credential : Credential) (greeting : Greeting) (kind : ErrorKind) (old new : Balance) → (IsScram conversation → HasNone (InvalidRow (speculative_reply asked greeting) mechanism credential))
-    → StoppedCosts (scram_in conversation) asked credential greeting kind old new → KeySpent (derivation_by conversation mechanism asked credential greeting) kind old new
+spent_by : (conversation : Option Conversation) (mechanism : AuthMechanism) (setup : Setup) (credential : Credential) (greeting : Greeting) (kind : ErrorKind) (old new : Balance) → (IsScram conversation → HasNone (InvalidRow (speculative_reply setup greeting) mechanism credential))
+    → StoppedCosts (scram_in conversation) setup credential greeting kind old new → KeySpent (derivation_by conversation mechanism setup credential greeting) kind old new
 unfolding derivation_by
-spent_by (Some (Scram version)) mechanism asked credential greeting kind old new none c = scram_spends version mechanism asked credential greeting (none tt) kind old new c
-spent_by conversation mechanism asked credential greeting kind old new none c = nothing_spent kind old new c
+spent_by (Some (Scram version)) mechanism setup credential greeting kind old new none c = scram_spends version mechanism setup credential greeting (none tt) kind old new c
+spent_by conversation mechanism setup credential greeting kind old new none c = nothing_spent kind old new c
 
 -- the mechanism doesn't take the credential
-row_spent : (conversation : Option Conversation) (mechanism : AuthMechanism) (asked : Asked) (credential : Credential) (greeting : Greeting) (kind : ErrorKind) (old new : Balance) → (IsScram conversation → HasNone (InvalidRow (speculative_reply asked greeting) mechanism credential))
-    → InvalidRow (speculative_reply asked greeting) mechanism credential kind → CostsNothing old.ledgers new.ledgers → KeySpent (derivation_by conversation mechanism asked credential greeting) kind old new
+row_spent : (conversation : Option Conversation) (mechanism : AuthMechanism) (setup : Setup) (credential : Credential) (greeting : Greeting) (kind : ErrorKind) (old new : Balance) → (IsScram conversation → HasNone (InvalidRow (speculative_reply setup greeting) mechanism credential))
+    → InvalidRow (speculative_reply setup greeting) mechanism credential kind → CostsNothing old.ledgers new.ledgers → KeySpent (derivation_by conversation mechanism setup credential greeting) kind old new
 unfolding derivation_by
-row_spent (Some (Scram version)) mechanism asked credential greeting kind old new none row nothing = absurd (none tt kind row)
-row_spent conversation mechanism asked credential greeting kind old new none row nothing = nothing_spent kind old new nothing
+row_spent (Some (Scram version)) mechanism setup credential greeting kind old new none row nothing = absurd (none tt kind row)
+row_spent conversation mechanism setup credential greeting kind old new none row nothing = nothing_spent kind old new nothing
 
 -- ---- a login
 
-login_taken : (who : Option Credential) (asked : Asked) (greeting : Greeting) (old new : Balance) → HasNone (HelloRow who) → LoginCostsOf who asked greeting old new → KeyTaken (derivation_of who asked greeting) old new
-login_taken None asked greeting old new made c = nothing_taken old new c
-login_taken (Some credential) asked greeting old new made c =
-    let none = taken credential (speculative_reply asked greeting) greeting.description c.mechanism c.is_mechanism made in
-    taken_more (derivation_by (conversation_of c.mechanism) c.mechanism asked credential greeting) (derivation_of (Some credential) asked greeting) old new (λ past turn h. (c.mechanism, c.is_mechanism, h))
-    (key_taken_by (conversation_of c.mechanism) c.mechanism asked credential greeting old new none c.costs)
+login_taken : (who : Option Credential) (setup : Setup) (greeting : Greeting) (old new : Balance) → HasNone (HelloRow who) → LoginCostsOf who setup greeting old new → KeyTaken (derivation_of who setup greeting) old new
+login_taken None setup greeting old new made c = nothing_taken old new c
+login_taken (Some credential) setup greeting old new made c =
+    let none = taken credential (speculative_reply setup greeting) greeting.description c.mechanism c.is_mechanism made in
+    taken_more (derivation_by (conversation_of c.mechanism) c.mechanism setup credential greeting) (derivation_of (Some credential) setup greeting) old new (λ past turn h. (c.mechanism, c.is_mechanism, h))
+    (key_taken_by (conversation_of c.mechanism) c.mechanism setup credential greeting old new none c.costs)
 
-login_spent : (who : Option Credential) (asked : Asked) (greeting : Greeting) (kind : ErrorKind) (old new : Balance) → HasNone (HelloRow who) → StoppedLoginCostsOf who asked greeting kind old new → KeySpent (derivation_of who asked greeting) kind old new
-login_spent None asked greeting kind old new made c = nothing_spent kind old new c
-login_spent (Some credential) asked greeting kind old new made c =
-    let none = taken credential (speculative_reply asked greeting) greeting.description c.mechanism c.is_mechanism made in
-    spent_more (derivation_by (conversation_of c.mechanism) c.mechanism asked credential greeting) (derivation_of (Some credential) asked greeting) kind old new (λ past turn h. (c.mechanism, c.is_mechanism, h))
+login_spent : (who : Option Credential) (setup : Setup) (greeting : Greeting) (kind : ErrorKind) (old new : Balance) → HasNone (HelloRow who) → StoppedLoginCostsOf who setup greeting kind old new → KeySpent (derivation_of who setup greeting) kind old new
+login_spent None setup greeting kind old new made c = nothing_spent kind old new c
+login_spent (Some credential) setup greeting kind old new made c =
+    let none = taken credential (speculative_reply setup greeting) greeting.description c.mechanism c.is_mechanism made in
+    spent_more (derivation_by (conversation_of c.mechanism) c.mechanism setup credential greeting) (derivation_of (Some credential) setup greeting) kind old new (λ past turn h. (c.mechanism, c.is_mechanism, h))
     (elim c.costs [
-      | inl row ↦ row_spent (conversation_of c.mechanism) c.mechanism asked credential greeting kind old new none row.0 row.1
-      | inr stopped ↦ spent_by (conversation_of c.mechanism) c.mechanism asked credential greeting kind old new none stopped
+      | inl row ↦ row_spent (conversation_of c.mechanism) c.mechanism setup credential greeting kind old new none row.0 row.1
+      | inr stopped ↦ spent_by (conversation_of c.mechanism) c.mechanism setup credential greeting kind old new none stopped
     ])
 
 -- ---- a handshake
@@ -188,61 +188,61 @@ who_made true credential made = made
 who_made false credential made = λ kind row. row
 
 -- a hello that was answered could be made
-hello_made : (asked : Asked) (greeting : Greeting) (old middle : State) (before between : ℤ) → Reached (hello_plan asked) greeting old middle before between → HasNone (HelloRow (logging_in asked greeting))
-hello_made asked greeting old middle before between r =
-    who_made (holds_users greeting.description.initial_server_type) asked.credential (greeted asked r.events greeting (record { follows = r.talked.follows; answer_is = r.answer_is })).made
+hello_made : (setup : Setup) (greeting : Greeting) (old middle : State) (before between : ℤ) → Reached (hello_plan setup) greeting old middle before between → HasNone (HelloRow (logging_in setup greeting))
+hello_made setup greeting old middle before between r =
+    who_made (holds_users greeting.description.initial_server_type) setup.credential (greeted setup r.events greeting (record { follows = r.talked.follows; answer_is = r.answer_is })).made
 
-pub handshake_taken : (asked : Asked) (greeting : Greeting) (old new : Balance) → HandshakeCosts asked greeting old new → KeyTaken (derivation_plan asked) old new
+pub handshake_taken : (setup : Setup) (greeting : Greeting) (old new : Balance) → HandshakeCosts setup greeting old new → KeyTaken (derivation_plan setup) old new
 unfolding derivation_plan login_derivation
-handshake_taken asked greeting old new h =
-    taken_after (hello_plan asked) (login_derivation asked) greeting h.middle h.between old new h.hello
-    (login_taken (logging_in asked greeting) asked greeting (balance h.middle h.between old.ledgers) new (hello_made asked greeting old.state h.middle old.id h.between h.hello) h.login)
+handshake_taken setup greeting old new h =
+    taken_after (hello_plan setup) (login_derivation setup) greeting h.middle h.between old new h.hello
+    (login_taken (logging_in setup greeting) setup greeting (balance h.middle h.between old.ledgers) new (hello_made setup greeting old.state h.middle old.id h.between h.hello) h.login)
 
 -- a login was accepted, and its server had named no service
-abbrev pub UnnamedCosts : Asked → ErrorKind → Balance → Balance → Type 0
-UnnamedCosts asked kind old new = (kind ≡ IncompatibleServer) × ((greeting : Greeting) × HandshakeCosts asked greeting old new)
+abbrev pub UnnamedCosts : Setup → ErrorKind → Balance → Balance → Type 0
+UnnamedCosts setup kind old new = (kind ≡ IncompatibleServer) × ((greeting : Greeting) × HandshakeCosts setup greeting old new)
 
 -- one that was stopped, or whose server named no service
-pub establishment_spent : (phase : HandshakePhase) (asked : Asked) (kind : ErrorKind) (old new : State) (after : ℤ) (first last : Ledgers) → StoppedIn phase asked kind old new after first last
-    → KeySpent (derivation_plan asked) kind (balance old asked.first_id first) (balance new after last) ⊎ UnnamedCosts asked kind (balance old asked.first_id first) (balance new after last)
+pub establishment_spent : (phase : HandshakePhase) (setup : Setup) (kind : ErrorKind) (old new : State) (after : ℤ) (first last : Ledgers) → StoppedIn phase setup kind old new after first last
+    → KeySpent (derivation_plan setup) kind (balance old setup.first_id first) (balance new after last) ⊎ UnnamedCosts setup kind (balance old setup.first_id first) (balance new after last)
 unfolding derivation_plan login_derivation
-establishment_spent (PreHello generation) asked kind old new after first last (is, stopped, nothing) = inl (inl (record { stopped = (stopped.0, stopped_first (hello_plan asked) (login_derivation asked) kind old new asked.first_id after stopped.1); nothing = nothing }))
-establishment_spent (PostHello generation) asked kind old new after first last s =
-    let made = hello_made asked s.greeting old s.middle asked.first_id s.between s.hello in
+establishment_spent (PreHello generation) setup kind old new after first last (is, stopped, nothing) = inl (inl (record { stopped = (stopped.0, stopped_first (hello_plan setup) (login_derivation setup) kind old new setup.first_id after stopped.1); nothing = nothing }))
+establishment_spent (PostHello generation) setup kind old new after first last s =
+    let made = hello_made setup s.greeting old s.middle setup.first_id s.between s.hello in
     elim s.stopped [
-      | inl l ↦ inl (spent_after (hello_plan asked) (login_derivation asked) s.greeting kind s.middle s.between (balance old asked.first_id first) (balance new after last) s.hello
-          (login_spent (logging_in asked s.greeting) asked s.greeting kind (balance s.middle s.between first) (balance new after last) made l.costs))
+      | inl l ↦ inl (spent_after (hello_plan setup) (login_derivation setup) s.greeting kind s.middle s.between (balance old setup.first_id first) (balance new after last) s.hello
+          (login_spent (logging_in setup s.greeting) setup s.greeting kind (balance s.middle s.between first) (balance new after last) made l.costs))
       | inr u ↦ inr (u.unnamed.0, (s.greeting, record { middle = s.middle; between = s.between; hello = s.hello; login = u.costs }))
     ]
 
 -- ---- over told bytes
 
-takes_led : (asked : Asked) (bytes : List ℕ) (old new : Balance) → KeyTaken (derivation_plan asked) old new → old.state.left ≡ Some bytes → TakesAsLed asked bytes (λ key. AcceptedTakes key old.ledgers new.ledgers)
-takes_led asked bytes old new a is =
-    let l = reached_led (derivation_plan asked) a.key old.state a.middle old.id a.between bytes a.reached is in
+takes_led : (setup : Setup) (bytes : List ℕ) (old new : Balance) → KeyTaken (derivation_plan setup) old new → old.state.left ≡ Some bytes → TakesAsLed setup bytes (λ key. AcceptedTakes key old.ledgers new.ledgers)
+takes_led setup bytes old new a is =
+    let l = reached_led (derivation_plan setup) a.key old.state a.middle old.id a.between bytes a.reached is in
     record { key = a.key; leads = record { outcome = ends a.key; commands = l.commands; taken = l.taken; unread = l.unread; leads = l.leads; key_is = refl }; taken = a.takes }
 
 -- memory ran out, or the bytes lead to the key
-spends_led : (asked : Asked) (kind : ErrorKind) (bytes : List ℕ) (old new : Balance) → KeySpent (derivation_plan asked) kind old new → old.state.left ≡ Some bytes → Unfailed old.state new.state
-    → (kind ≡ OutOfMemory) ⊎ TakesAsLed asked bytes (λ key. RefusedTakes key old.ledgers new.ledgers)
-spends_led asked kind bytes old new s is unfailed =
+spends_led : (setup : Setup) (kind : ErrorKind) (bytes : List ℕ) (old new : Balance) → KeySpent (derivation_plan setup) kind old new → old.state.left ≡ Some bytes → Unfailed old.state new.state
+    → (kind ≡ OutOfMemory) ⊎ TakesAsLed setup bytes (λ key. RefusedTakes key old.ledgers new.ledgers)
+spends_led setup kind bytes old new s is unfailed =
     elim s [
-      | inl early ↦ elim (stopped_led (derivation_plan asked) kind old.state new.state old.id new.id bytes early.stopped.1 is unfailed) [
+      | inl early ↦ elim (stopped_led (derivation_plan setup) kind old.state new.state old.id new.id bytes early.stopped.1 is unfailed) [
         | inl memory ↦ inl memory
         | inr l ↦ inr (record { key = None; leads = record { outcome = refuses kind; commands = l.commands; taken = l.taken; unread = l.unread; leads = l.leads; key_is = refl }; taken = early.nothing })
       ]
       | inr late ↦ elim late.takes [
         | inl takes ↦
-            let l = reached_led (derivation_plan asked) late.key old.state late.middle old.id late.between bytes late.reached is in
+            let l = reached_led (derivation_plan setup) late.key old.state late.middle old.id late.between bytes late.reached is in
             inr (record { key = late.key; leads = record { outcome = ends late.key; commands = l.commands; taken = l.taken; unread = l.unread; leads = l.leads; key_is = refl }; taken = takes })
         | inr memory ↦ inl memory.0
       ]
     ]
 
 -- a handshake that was accepted: the connection is ready, or its server named no service
-pub pooled_led : (r : Result PooledConnection EstablishError) (asked : Asked) (greeting : Greeting) (old new : Balance) → HandshakeCosts asked greeting old new → IfErr r (λ e. e.cause.kind ≡ IncompatibleServer) → CostsAsLed r asked old.state new.state old.ledgers new.ledgers
-pooled_led (Ok pooled) asked greeting old new h unnamed = record { over = λ bytes is unfailed. takes_led asked bytes old new (handshake_taken asked greeting old new h) is }
-pooled_led (Err e) asked greeting old new h unnamed = record { over = λ bytes is unfailed. inr (inl (record { kind_is = unnamed; led = takes_led asked bytes old new (handshake_taken asked greeting old new h) is })) }
+pub pooled_led : (r : Result PooledConnection EstablishError) (setup : Setup) (greeting : Greeting) (old new : Balance) → HandshakeCosts setup greeting old new → IfErr r (λ e. e.cause.kind ≡ IncompatibleServer) → CostsAsLed r setup old.state new.state old.ledgers new.ledgers
+pooled_led (Ok pooled) setup greeting old new h unnamed = record { over = λ bytes is unfailed. takes_led setup bytes old new (handshake_taken setup greeting old new h) is }
+pooled_led (Err e) setup greeting old new h unnamed = record { over = λ bytes is unfailed. inr (inl (record { kind_is = unnamed; led = takes_led setup bytes old new (handshake_taken setup greeting old new h) is })) }
 
 pub unnamed_kind : (r : Result PooledConnection EstablishError) (connection : Connection) (pool : PoolGeneration) → IfErr r (UnnamedService connection pool) → IfErr r (λ e. e.cause.kind ≡ IncompatibleServer)
 unnamed_kind (Ok pooled) connection pool u = tt
@@ -254,11 +254,11 @@ unnamed_entries P (Ok pooled) connection pool u = tt
 unnamed_entries P (Err e) connection pool u = inl u.kind_is
 
 -- one that was refused
-pub refused_led : (e : EstablishError) (asked : Asked) (old new : State) (after : ℤ) (first last : Ledgers) → StoppedIn e.handshake_phase asked e.cause.kind old new after first last → (e.cause.kind ≡ IncompatibleServer → ⊥) → CostsAsLed {T = PooledConnection} (Err e) asked old new first last
-refused_led e asked old new after first last s other = record {
+pub refused_led : (e : EstablishError) (setup : Setup) (old new : State) (after : ℤ) (first last : Ledgers) → StoppedIn e.handshake_phase setup e.cause.kind old new after first last → (e.cause.kind ≡ IncompatibleServer → ⊥) → CostsAsLed {T = PooledConnection} (Err e) setup old new first last
+refused_led e setup old new after first last s other = record {
   over = λ bytes is unfailed.
-      elim (establishment_spent e.handshake_phase asked e.cause.kind old new after first last s) [
-        | inl spent ↦ elim (spends_led asked e.cause.kind bytes (balance old asked.first_id first) (balance new after last) spent is unfailed) [
+      elim (establishment_spent e.handshake_phase setup e.cause.kind old new after first last s) [
+        | inl spent ↦ elim (spends_led setup e.cause.kind bytes (balance old setup.first_id first) (balance new after last) spent is unfailed) [
           | inl memory ↦ inl memory
           | inr led ↦ inr (inr (record { other = other; led = led }))
         ]
@@ -266,5 +266,5 @@ refused_led e asked old new after first last s other = record {
       ];
 }
 
-pub refused_compatible : (e : EstablishError) (cause : Error) (asked : Asked) (opened connection : Connection) (old new : State) (after : ℤ) (first last : Ledgers) → e.cause ≡ cause → StoppedHandshake asked opened connection cause.kind old new after first last → e.cause.kind ≡ IncompatibleServer → ⊥
-refused_compatible e cause asked opened connection old new after first last same s is = compatible asked opened connection cause.kind old new after first last s (sym (ap (λ (c : Error). c.kind) same) ∙ is)
+pub refused_compatible : (e : EstablishError) (cause : Error) (setup : Setup) (opened connection : Connection) (old new : State) (after : ℤ) (first last : Ledgers) → e.cause ≡ cause → StoppedHandshake setup opened connection cause.kind old new after first last → e.cause.kind ≡ IncompatibleServer → ⊥
+refused_compatible e cause setup opened connection old new after first last same s is = compatible setup opened connection cause.kind old new after first last s (sym (ap (λ (c : Error). c.kind) same) ∙ is)

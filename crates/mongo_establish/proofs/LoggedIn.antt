@@ -17,7 +17,7 @@ use Rattle.mongo_sasl.proofs.AtOnce.{at_once_keeping}
 use Rattle.mongo_scram.specs.Costs.{Balance, CostsNothing}
 use Rattle.mongo_establish.specs.declared.conversation.Conversation.{Conversation}
 use Rattle.mongo_establish.specs.declared.answered_round.AnsweredRound.{AnsweredRound}
-use Rattle.mongo_establish.specs.Asked.{Asked}
+use Rattle.mongo_establish.specs.Setup.{Setup}
 use Rattle.mongo_establish.specs.Costs.{AcceptedCosts, StoppedCosts, LoginCostsOf, LoginCosts, StoppedLoginCostsOf, StoppedLoginCosts}
 use Rattle.mongo_establish.specs.First.{IsRoundBy}
 use Rattle.mongo_establish.specs.Greeting.{Greeting}
@@ -31,25 +31,25 @@ use Rattle.mongo_establish.proofs.Validated.{credential_no_row}
 -- ---- who logs in
 
 -- without somebody who logs in, a login ends at once
-pub nobody : (asked : Asked) (greeting : Greeting) (old : State) (before : ℤ) → logging_in asked greeting ≡ None → Reached (login_plan asked greeting) greeting old old before before
+pub nobody : (setup : Setup) (greeting : Greeting) (old : State) (before : ℤ) → logging_in setup greeting ≡ None → Reached (login_plan setup greeting) greeting old old before before
 unfolding login_plan
-nobody asked greeting old before is = subst (λ who. Reached (login_by who asked greeting) greeting old old before before) (sym is) (reached_ending greeting old before)
+nobody setup greeting old before is = subst (λ who. Reached (login_by who setup greeting) greeting old old before before) (sym is) (reached_ending greeting old before)
 
-pub nobody_costs : (asked : Asked) (greeting : Greeting) (old : Balance) → logging_in asked greeting ≡ None → CostsNothing old.ledgers old.ledgers → LoginCosts asked greeting old old
-nobody_costs asked greeting old is nothing = subst (λ who. LoginCostsOf who asked greeting old old) (sym is) nothing
+pub nobody_costs : (setup : Setup) (greeting : Greeting) (old : Balance) → logging_in setup greeting ≡ None → CostsNothing old.ledgers old.ledgers → LoginCosts setup greeting old old
+nobody_costs setup greeting old is nothing = subst (λ who. LoginCostsOf who setup greeting old old) (sym is) nothing
 
 unasked : (holds : Bool) (credential : Option Credential) → credential ≡ None → ◌≡◌ {A = Option Credential} (if holds then credential else None) None
 unasked true credential none = none
 unasked false credential none = refl
 
-pub no_credential : (asked : Asked) (greeting : Greeting) → asked.credential ≡ None → logging_in asked greeting ≡ None
-no_credential asked greeting none = unasked (holds_users greeting.description.initial_server_type) asked.credential none
+pub no_credential : (setup : Setup) (greeting : Greeting) → setup.credential ≡ None → logging_in setup greeting ≡ None
+no_credential setup greeting none = unasked (holds_users greeting.description.initial_server_type) setup.credential none
 
-pub no_users : (asked : Asked) (greeting : Greeting) → holds_users greeting.description.initial_server_type ≡ false → logging_in asked greeting ≡ None
-no_users asked greeting none = ap (λ (holds : Bool). let who : Option Credential = if holds then asked.credential else None in who) none
+pub no_users : (setup : Setup) (greeting : Greeting) → holds_users greeting.description.initial_server_type ≡ false → logging_in setup greeting ≡ None
+no_users setup greeting none = ap (λ (holds : Bool). let who : Option Credential = if holds then setup.credential else None in who) none
 
-a_user : (asked : Asked) (greeting : Greeting) (credential : Credential) → holds_users greeting.description.initial_server_type ≡ true → asked.credential ≡ Some credential → logging_in asked greeting ≡ Some credential
-a_user asked greeting credential holds is = ap (λ (b : Bool). let who : Option Credential = if b then asked.credential else None in who) holds ∙ is
+a_user : (setup : Setup) (greeting : Greeting) (credential : Credential) → holds_users greeting.description.initial_server_type ≡ true → setup.credential ≡ Some credential → logging_in setup greeting ≡ Some credential
+a_user setup greeting credential holds is = ap (λ (b : Bool). let who : Option Credential = if b then setup.credential else None in who) holds ∙ is
 
 -- ---- by which mechanism
 
@@ -92,76 +92,76 @@ takes_it (Some reply) speculated mechanism credential is taken = tt
 
 -- ---- a mechanism's plan
 
-validated_reached : (mechanism : AuthMechanism) (conversation : Conversation) (asked : Asked) (credential : Credential) (greeting : Greeting) (old new : State) (before after : ℤ) → HasConversation mechanism conversation → HasNone (InvalidRow (speculative_reply asked greeting) mechanism credential)
-    → Reached (conversation_plan conversation asked credential greeting) greeting old new before after → Reached (mechanism_plan mechanism asked credential greeting) greeting old new before after
+validated_reached : (mechanism : AuthMechanism) (conversation : Conversation) (setup : Setup) (credential : Credential) (greeting : Greeting) (old new : State) (before after : ℤ) → HasConversation mechanism conversation → HasNone (InvalidRow (speculative_reply setup greeting) mechanism credential)
+    → Reached (conversation_plan conversation setup credential greeting) greeting old new before after → Reached (mechanism_plan mechanism setup credential greeting) greeting old new before after
 unfolding mechanism_plan
-validated_reached mechanism conversation asked credential greeting old new before after has none r =
-    reached_reading (HasConversation mechanism) (validated mechanism asked credential greeting) conversation greeting old new before after has (reached_unless _ _ greeting old new before after none r)
+validated_reached mechanism conversation setup credential greeting old new before after has none r =
+    reached_reading (HasConversation mechanism) (validated mechanism setup credential greeting) conversation greeting old new before after has (reached_unless _ _ greeting old new before after none r)
 
-validated_stopped : {kept : Option ErrorKind} (mechanism : AuthMechanism) (conversation : Conversation) (asked : Asked) (credential : Credential) (greeting : Greeting) (kind : ErrorKind) (old new : State) (before after : ℤ) → HasConversation mechanism conversation → HasNone (InvalidRow (speculative_reply asked greeting) mechanism credential)
-    → StoppedKeeping (conversation_plan conversation asked credential greeting) kind old new before after kept → StoppedKeeping (mechanism_plan mechanism asked credential greeting) kind old new before after kept
+validated_stopped : {kept : Option ErrorKind} (mechanism : AuthMechanism) (conversation : Conversation) (setup : Setup) (credential : Credential) (greeting : Greeting) (kind : ErrorKind) (old new : State) (before after : ℤ) → HasConversation mechanism conversation → HasNone (InvalidRow (speculative_reply setup greeting) mechanism credential)
+    → StoppedKeeping (conversation_plan conversation setup credential greeting) kind old new before after kept → StoppedKeeping (mechanism_plan mechanism setup credential greeting) kind old new before after kept
 unfolding mechanism_plan
-validated_stopped mechanism conversation asked credential greeting kind old new before after has none s =
-    stopped_reading (HasConversation mechanism) (validated mechanism asked credential greeting) conversation kind old new before after has (stopped_unless _ _ kind old new before after none s)
+validated_stopped mechanism conversation setup credential greeting kind old new before after has none s =
+    stopped_reading (HasConversation mechanism) (validated mechanism setup credential greeting) conversation kind old new before after has (stopped_unless _ _ kind old new before after none s)
 
-row_refused : (mechanism : AuthMechanism) (conversation : Conversation) (asked : Asked) (credential : Credential) (greeting : Greeting) (kind : ErrorKind) → HasConversation mechanism conversation → InvalidRow (speculative_reply asked greeting) mechanism credential kind → RefusedAtOnce (mechanism_plan mechanism asked credential greeting) kind
+row_refused : (mechanism : AuthMechanism) (conversation : Conversation) (setup : Setup) (credential : Credential) (greeting : Greeting) (kind : ErrorKind) → HasConversation mechanism conversation → InvalidRow (speculative_reply setup greeting) mechanism credential kind → RefusedAtOnce (mechanism_plan mechanism setup credential greeting) kind
 unfolding mechanism_plan
-row_refused mechanism conversation asked credential greeting kind has row = inl (conversation, has, inl row)
+row_refused mechanism conversation setup credential greeting kind has row = inl (conversation, has, inl row)
 
 -- ---- a login
 
-module _ (asked : Asked) (greeting : Greeting) (credential : Credential) (round : Option AnsweredRound) (mechanism : AuthMechanism) (who : asked.credential ≡ Some credential) (holds : holds_users greeting.description.initial_server_type ≡ true) (went : IsRoundBy (conversation_of (mechanism_before credential.mechanism)) credential asked greeting round)
+module _ (setup : Setup) (greeting : Greeting) (credential : Credential) (round : Option AnsweredRound) (mechanism : AuthMechanism) (who : setup.credential ≡ Some credential) (holds : holds_users greeting.description.initial_server_type ≡ true) (went : IsRoundBy (conversation_of (mechanism_before credential.mechanism)) credential setup greeting round)
     (negotiated : (reply : Option (List ℕ)) → is_some reply ≡ is_some round → IsMechanism credential.mechanism reply greeting.description mechanism) (conversation : Conversation) (has : HasConversation mechanism conversation) where
-  by_mechanism : IsMechanism credential.mechanism (speculative_reply asked greeting) greeting.description mechanism
-  by_mechanism = negotiated (speculative_reply asked greeting) (sym went.there)
+  by_mechanism : IsMechanism credential.mechanism (speculative_reply setup greeting) greeting.description mechanism
+  by_mechanism = negotiated (speculative_reply setup greeting) (sym went.there)
 
   -- the round is one of its conversation
-  pub went_by : IsRoundBy (Some conversation) credential asked greeting round
-  went_by = record { there = went.there; scram = λ scram. went.scram (begun_by_scram credential.mechanism (speculative_reply asked greeting) greeting.description mechanism by_mechanism (subst IsScram (sym has) scram)) }
+  pub went_by : IsRoundBy (Some conversation) credential setup greeting round
+  went_by = record { there = went.there; scram = λ scram. went.scram (begun_by_scram credential.mechanism (speculative_reply setup greeting) greeting.description mechanism by_mechanism (subst IsScram (sym has) scram)) }
 
-  login_reached : (old new : State) (before after : ℤ) → Reached (mechanism_plan mechanism asked credential greeting) greeting old new before after → Reached (login_plan asked greeting) greeting old new before after
+  login_reached : (old new : State) (before after : ℤ) → Reached (mechanism_plan mechanism setup credential greeting) greeting old new before after → Reached (login_plan setup greeting) greeting old new before after
   unfolding login_plan
   login_reached old new before after r =
-      subst (λ w. Reached (login_by w asked greeting) greeting old new before after) (sym (a_user asked greeting credential holds who)) (reached_reading (IsMechanism credential.mechanism (speculative_reply asked greeting) greeting.description) (λ m. mechanism_plan m asked credential greeting) mechanism greeting old new before after by_mechanism r)
+      subst (λ w. Reached (login_by w setup greeting) greeting old new before after) (sym (a_user setup greeting credential holds who)) (reached_reading (IsMechanism credential.mechanism (speculative_reply setup greeting) greeting.description) (λ m. mechanism_plan m setup credential greeting) mechanism greeting old new before after by_mechanism r)
 
-  login_stopped : {kept : Option ErrorKind} (kind : ErrorKind) (old new : State) (before after : ℤ) → StoppedKeeping (mechanism_plan mechanism asked credential greeting) kind old new before after kept → StoppedKeeping (login_plan asked greeting) kind old new before after kept
+  login_stopped : {kept : Option ErrorKind} (kind : ErrorKind) (old new : State) (before after : ℤ) → StoppedKeeping (mechanism_plan mechanism setup credential greeting) kind old new before after kept → StoppedKeeping (login_plan setup greeting) kind old new before after kept
   unfolding login_plan
   login_stopped {kept = kept} kind old new before after s =
-      subst (λ w. StoppedKeeping (login_by w asked greeting) kind old new before after kept) (sym (a_user asked greeting credential holds who)) (stopped_reading (IsMechanism credential.mechanism (speculative_reply asked greeting) greeting.description) (λ m. mechanism_plan m asked credential greeting) mechanism kind old new before after by_mechanism s)
+      subst (λ w. StoppedKeeping (login_by w setup greeting) kind old new before after kept) (sym (a_user setup greeting credential holds who)) (stopped_reading (IsMechanism credential.mechanism (speculative_reply setup greeting) greeting.description) (λ m. mechanism_plan m setup credential greeting) mechanism kind old new before after by_mechanism s)
 
   -- the mechanism doesn't take the credential, which it is asked only where no first round was answered
-  invalid_row : (kind : ErrorKind) → is_some round ≡ false → InvalidRow None mechanism credential kind → InvalidRow (speculative_reply asked greeting) mechanism credential kind
-  invalid_row kind none row = subst (λ reply. InvalidRow reply mechanism credential kind) (sym (none_is (speculative_reply asked greeting) (sym went.there ∙ none))) row
+  invalid_row : (kind : ErrorKind) → is_some round ≡ false → InvalidRow None mechanism credential kind → InvalidRow (speculative_reply setup greeting) mechanism credential kind
+  invalid_row kind none row = subst (λ reply. InvalidRow reply mechanism credential kind) (sym (none_is (speculative_reply setup greeting) (sym went.there ∙ none))) row
 
-  pub invalid_stopped : (kind : ErrorKind) (old : State) (before : ℤ) → is_some round ≡ false → InvalidRow None mechanism credential kind → StoppedKeeping (login_plan asked greeting) kind old old before before None
-  invalid_stopped kind old before none row = login_stopped kind old old before before (at_once_keeping (mechanism_plan mechanism asked credential greeting) kind old before (row_refused mechanism conversation asked credential greeting kind has (invalid_row kind none row)))
+  pub invalid_stopped : (kind : ErrorKind) (old : State) (before : ℤ) → is_some round ≡ false → InvalidRow None mechanism credential kind → StoppedKeeping (login_plan setup greeting) kind old old before before None
+  invalid_stopped kind old before none row = login_stopped kind old old before before (at_once_keeping (mechanism_plan mechanism setup credential greeting) kind old before (row_refused mechanism conversation setup credential greeting kind has (invalid_row kind none row)))
 
-  pub invalid_costs : (kind : ErrorKind) (old : Balance) → is_some round ≡ false → InvalidRow None mechanism credential kind → CostsNothing old.ledgers old.ledgers → StoppedLoginCosts asked greeting kind old old
+  pub invalid_costs : (kind : ErrorKind) (old : Balance) → is_some round ≡ false → InvalidRow None mechanism credential kind → CostsNothing old.ledgers old.ledgers → StoppedLoginCosts setup greeting kind old old
   invalid_costs kind old none row nothing =
-      subst (λ w. StoppedLoginCostsOf w asked greeting kind old old) (sym (a_user asked greeting credential holds who)) (record { mechanism = mechanism; is_mechanism = by_mechanism; costs = inl (invalid_row kind none row, nothing) })
+      subst (λ w. StoppedLoginCostsOf w setup greeting kind old old) (sym (a_user setup greeting credential holds who)) (record { mechanism = mechanism; is_mechanism = by_mechanism; costs = inl (invalid_row kind none row, nothing) })
 
   module _ (taken : IsCredentialTaken (is_some round) mechanism credential) where
-    no_row : HasNone (InvalidRow (speculative_reply asked greeting) mechanism credential)
-    no_row = credential_no_row (speculative_reply asked greeting) mechanism credential (takes_it (speculative_reply asked greeting) (is_some round) mechanism credential went.there taken)
+    no_row : HasNone (InvalidRow (speculative_reply setup greeting) mechanism credential)
+    no_row = credential_no_row (speculative_reply setup greeting) mechanism credential (takes_it (speculative_reply setup greeting) (is_some round) mechanism credential went.there taken)
 
-    pub conversed_reached : (old new : Balance) → Conversed conversation asked credential greeting old new → Reached (login_plan asked greeting) greeting old.state new.state old.id new.id
-    conversed_reached old new h = login_reached old.state new.state old.id new.id (validated_reached mechanism conversation asked credential greeting old.state new.state old.id new.id has no_row h.reached)
+    pub conversed_reached : (old new : Balance) → Conversed conversation setup credential greeting old new → Reached (login_plan setup greeting) greeting old.state new.state old.id new.id
+    conversed_reached old new h = login_reached old.state new.state old.id new.id (validated_reached mechanism conversation setup credential greeting old.state new.state old.id new.id has no_row h.reached)
 
-    pub conversed_costs : (old new : Balance) → Conversed conversation asked credential greeting old new → LoginCosts asked greeting old new
+    pub conversed_costs : (old new : Balance) → Conversed conversation setup credential greeting old new → LoginCosts setup greeting old new
     conversed_costs old new h =
-        subst (λ w. LoginCostsOf w asked greeting old new) (sym (a_user asked greeting credential holds who)) (record {
+        subst (λ w. LoginCostsOf w setup greeting old new) (sym (a_user setup greeting credential holds who)) (record {
           mechanism = mechanism;
           is_mechanism = by_mechanism;
-          costs = subst (λ o. AcceptedCosts (scram_in o) asked credential greeting old new) (sym has) h.costs;
+          costs = subst (λ o. AcceptedCosts (scram_in o) setup credential greeting old new) (sym has) h.costs;
         })
 
-    pub stopped_stopped : {kept : Option ErrorKind} (kind : ErrorKind) (old new : Balance) → ConversationStopped conversation asked credential greeting kind kept old new → StoppedKeeping (login_plan asked greeting) kind old.state new.state old.id new.id kept
-    stopped_stopped kind old new h = login_stopped kind old.state new.state old.id new.id (validated_stopped mechanism conversation asked credential greeting kind old.state new.state old.id new.id has no_row h.stopped)
+    pub stopped_stopped : {kept : Option ErrorKind} (kind : ErrorKind) (old new : Balance) → ConversationStopped conversation setup credential greeting kind kept old new → StoppedKeeping (login_plan setup greeting) kind old.state new.state old.id new.id kept
+    stopped_stopped kind old new h = login_stopped kind old.state new.state old.id new.id (validated_stopped mechanism conversation setup credential greeting kind old.state new.state old.id new.id has no_row h.stopped)
 
-    pub stopped_costs : {kept : Option ErrorKind} (kind : ErrorKind) (old new : Balance) → ConversationStopped conversation asked credential greeting kind kept old new → StoppedLoginCosts asked greeting kind old new
+    pub stopped_costs : {kept : Option ErrorKind} (kind : ErrorKind) (old new : Balance) → ConversationStopped conversation setup credential greeting kind kept old new → StoppedLoginCosts setup greeting kind old new
     stopped_costs kind old new h =
-        subst (λ w. StoppedLoginCostsOf w asked greeting kind old new) (sym (a_user asked greeting credential holds who)) (record {
+        subst (λ w. StoppedLoginCostsOf w setup greeting kind old new) (sym (a_user setup greeting credential holds who)) (record {
           mechanism = mechanism;
           is_mechanism = by_mechanism;
-          costs = inr (subst (λ o. StoppedCosts (scram_in o) asked credential greeting kind old new) (sym has) h.costs);
+          costs = inr (subst (λ o. StoppedCosts (scram_in o) setup credential greeting kind old new) (sym has) h.costs);
         })

@@ -13,7 +13,7 @@ use Rattle.mongo_establish.specs.declared.conversation.Conversation.{Conversatio
 use Rattle.mongo_establish.specs.declared.answered_round.AnsweredRound.{AnsweredRound}
 use Rattle.mongo_establish.specs.declared.login_state.Nonces.{Nonces}
 use Rattle.mongo_establish.specs.declared.options.HandshakerOptions.{HandshakerOptions}
-use Rattle.mongo_establish.specs.Asked.{Asked, asked_over}
+use Rattle.mongo_establish.specs.Setup.{Setup, setup_over}
 use Rattle.mongo_establish.specs.First.{IsRoundBy, IsRoundOf}
 use Rattle.mongo_establish.specs.Greeting.{Greeting}
 use Rattle.mongo_establish.specs.Login.{holds_users, IsMechanism, InvalidRow}
@@ -30,20 +30,20 @@ no_row : (conversation : Conversation) → Some conversation ≡ None → ⊥
 no_row conversation is = cc
 
 -- the server holds no users
-pub empty_server : (asked : Asked) (description : StreamDescription) (held : Option StreamDescription) (round : Option AnsweredRound) (old : Balance) → held ≡ Some description → holds_users description.initial_server_type ≡ false → CostsNothing old.ledgers old.ledgers → LogsIn asked held round old old
-empty_server asked description held round old is empty nothing =
+pub empty_server : (setup : Setup) (description : StreamDescription) (held : Option StreamDescription) (round : Option AnsweredRound) (old : Balance) → held ≡ Some description → holds_users description.initial_server_type ≡ false → CostsNothing old.ledgers old.ledgers → LogsIn setup held round old old
+empty_server setup description held round old is empty nothing =
     let none : (greeting : Greeting) → held ≡ Some greeting.description → holds_users greeting.description.initial_server_type ≡ false =
     λ greeting described. subst (λ d. holds_users d.initial_server_type ≡ false) (same_description description greeting.description (sym is ∙ described)) empty in
     record {
-      reached = λ greeting described r. nobody asked greeting old.state old.id (no_users asked greeting (none greeting described));
-      costs = λ greeting described r. nobody_costs asked greeting old (no_users asked greeting (none greeting described)) nothing;
+      reached = λ greeting described r. nobody setup greeting old.state old.id (no_users setup greeting (none greeting described));
+      costs = λ greeting described r. nobody_costs setup greeting old (no_users setup greeting (none greeting described)) nothing;
     }
 
 -- there is no credential
-pub no_login : (asked : Asked) (held : Option StreamDescription) (round : Option AnsweredRound) (old : Balance) → asked.credential ≡ None → CostsNothing old.ledgers old.ledgers → LogsIn asked held round old old
-no_login asked held round old none nothing = record {
-  reached = λ greeting described r. nobody asked greeting old.state old.id (no_credential asked greeting none);
-  costs = λ greeting described r. nobody_costs asked greeting old (no_credential asked greeting none) nothing;
+pub no_login : (setup : Setup) (held : Option StreamDescription) (round : Option AnsweredRound) (old : Balance) → setup.credential ≡ None → CostsNothing old.ledgers old.ledgers → LogsIn setup held round old old
+no_login setup held round old none nothing = record {
+  reached = λ greeting described r. nobody setup greeting old.state old.id (no_credential setup greeting none);
+  costs = λ greeting described r. nobody_costs setup greeting old (no_credential setup greeting none) nothing;
 }
 
 -- a reply that is there where a first round is
@@ -53,8 +53,8 @@ reply_like (Some round) = (Some [], refl)
 
 module _ (opened : Connection) (options : HandshakerOptions) (given : Option Credential) (nonces : Nonces) (id : ℤ) (credential : Credential) (who : given ≡ Some credential) (round : Option AnsweredRound) (mechanism : AuthMechanism) (description : StreamDescription) (is : opened.stream_description ≡ Some description)
     (at : (holds_users description.initial_server_type ≡ true) × ((reply : Option (List ℕ)) → is_some reply ≡ is_some round → IsMechanism credential.mechanism reply description mechanism)) (spoken : SpeaksFor given) (made : HasNone (HelloRow given)) where
-  abbrev asked : Asked
-  asked = asked_over opened options given nonces id
+  abbrev setup : Setup
+  setup = setup_over opened options given nonces id
 
   abbrev held : Option StreamDescription
   held = opened.stream_description
@@ -77,45 +77,45 @@ module _ (opened : Connection) (options : HandshakerOptions) (given : Option Cre
   greeted_mechanism : (greeting : Greeting) → held ≡ Some greeting.description → (reply : Option (List ℕ)) → is_some reply ≡ is_some round → IsMechanism credential.mechanism reply greeting.description mechanism
   greeted_mechanism greeting described reply like = subst (λ d. IsMechanism credential.mechanism reply d mechanism) (described_same greeting described) (at.1 reply like)
 
-  went : (greeting : Greeting) → IsRoundOf asked.credential asked greeting round → IsRoundBy (conversation_of (mechanism_before credential.mechanism)) credential asked greeting round
-  went greeting r = subst (λ c. IsRoundOf c asked greeting round) who r
+  went : (greeting : Greeting) → IsRoundOf setup.credential setup greeting round → IsRoundBy (conversation_of (mechanism_before credential.mechanism)) credential setup greeting round
+  went greeting r = subst (λ c. IsRoundOf c setup greeting round) who r
 
   -- the mechanism doesn't take the credential
   pub log_in_invalid : {T : Type 0} (r : Result T Error) (kept : Option ErrorKind) (old : Balance) → kept ≡ None → CostsNothing old.ledgers old.ledgers → IfErr r (λ e. (is_some round ≡ false) × InvalidRow None mechanism credential e.kind)
-      → IfErr r (λ e. LoginStops asked held round e.kind kept old old)
+      → IfErr r (λ e. LoginStops setup held round e.kind kept old old)
   log_in_invalid (Ok x) kept old none nothing h = tt
   log_in_invalid (Err e) kept old none nothing h = record {
-    stopped = λ greeting described r. subst (StoppedKeeping (login_plan asked greeting) e.kind old.state old.state old.id old.id) (sym none) (invalid_stopped asked greeting credential round mechanism who (users greeting described) (went greeting r) (greeted_mechanism greeting described) found.0 found.1 e.kind old.state old.id h.0 h.1);
-    costs = λ greeting described r. invalid_costs asked greeting credential round mechanism who (users greeting described) (went greeting r) (greeted_mechanism greeting described) found.0 found.1 e.kind old h.0 h.1 nothing;
+    stopped = λ greeting described r. subst (StoppedKeeping (login_plan setup greeting) e.kind old.state old.state old.id old.id) (sym none) (invalid_stopped setup greeting credential round mechanism who (users greeting described) (went greeting r) (greeted_mechanism greeting described) found.0 found.1 e.kind old.state old.id h.0 h.1);
+    costs = λ greeting described r. invalid_costs setup greeting credential round mechanism who (users greeting described) (went greeting r) (greeted_mechanism greeting described) found.0 found.1 e.kind old h.0 h.1 nothing;
   }
 
   module _ (taken : IsCredentialTaken (is_some round) mechanism credential) (conversation : Conversation) (has : HasConversation mechanism conversation) where
     -- its round is the conversation's
-    abbrev by_it : (greeting : Greeting) → held ≡ Some greeting.description → IsRoundOf asked.credential asked greeting round → IsRoundBy (Some conversation) credential asked greeting round
-    by_it greeting described r = went_by asked greeting credential round mechanism who (users greeting described) (went greeting r) (greeted_mechanism greeting described) conversation has
+    abbrev by_it : (greeting : Greeting) → held ≡ Some greeting.description → IsRoundOf setup.credential setup greeting round → IsRoundBy (Some conversation) credential setup greeting round
+    by_it greeting described r = went_by setup greeting credential round mechanism who (users greeting described) (went greeting r) (greeted_mechanism greeting described) conversation has
 
-    abbrev this : Option Credential → Asked
-    this c = asked_over opened options c nonces id
+    abbrev this : Option Credential → Setup
+    this c = setup_over opened options c nonces id
 
-    here : (r : Result (Unit {0}) Error) (left : Connection) (old new : Balance) → Converses r conversation (this (Some credential)) credential round opened left old new → Converses r conversation asked credential round opened left old new
+    here : (r : Result (Unit {0}) Error) (left : Connection) (old new : Balance) → Converses r conversation (this (Some credential)) credential round opened left old new → Converses r conversation setup credential round opened left old new
     here r left old new h = subst (λ c. Converses r conversation (this c) credential round opened left old new) (sym who) h
 
     -- its conversation was followed to its end
-    pub log_in_accepted : (r : Result (Unit {0}) Error) (left : Connection) (old new : Balance) → Converses r conversation (this (Some credential)) credential round opened left old new → OnOk r (LogsIn asked held round old new)
+    pub log_in_accepted : (r : Result (Unit {0}) Error) (left : Connection) (old new : Balance) → Converses r conversation (this (Some credential)) credential round opened left old new → OnOk r (LogsIn setup held round old new)
     log_in_accepted (Ok done) left old new h =
         let conversed = (here (Ok done) left old new h).accepted in
         record {
-          reached = λ greeting described r. conversed_reached asked greeting credential round mechanism who (users greeting described) (went greeting r) (greeted_mechanism greeting described) conversation has taken old new (conversed greeting described (by_it greeting described r));
-          costs = λ greeting described r. conversed_costs asked greeting credential round mechanism who (users greeting described) (went greeting r) (greeted_mechanism greeting described) conversation has taken old new (conversed greeting described (by_it greeting described r));
+          reached = λ greeting described r. conversed_reached setup greeting credential round mechanism who (users greeting described) (went greeting r) (greeted_mechanism greeting described) conversation has taken old new (conversed greeting described (by_it greeting described r));
+          costs = λ greeting described r. conversed_costs setup greeting credential round mechanism who (users greeting described) (went greeting r) (greeted_mechanism greeting described) conversation has taken old new (conversed greeting described (by_it greeting described r));
         }
     log_in_accepted (Err e) left old new h = tt
 
     -- it was stopped
-    pub log_in_stopped : (r : Result (Unit {0}) Error) (left : Connection) (old new : Balance) → Converses r conversation (this (Some credential)) credential round opened left old new → IfErr r (λ e. LoginStops asked held round e.kind (kept_fault left) old new)
+    pub log_in_stopped : (r : Result (Unit {0}) Error) (left : Connection) (old new : Balance) → Converses r conversation (this (Some credential)) credential round opened left old new → IfErr r (λ e. LoginStops setup held round e.kind (kept_fault left) old new)
     log_in_stopped (Ok done) left old new h = tt
     log_in_stopped (Err e) left old new h =
         let stopped = (here (Err e) left old new h).refused in
         record {
-          stopped = λ greeting described r. stopped_stopped asked greeting credential round mechanism who (users greeting described) (went greeting r) (greeted_mechanism greeting described) conversation has taken e.kind old new (stopped greeting described (by_it greeting described r));
-          costs = λ greeting described r. stopped_costs asked greeting credential round mechanism who (users greeting described) (went greeting r) (greeted_mechanism greeting described) conversation has taken e.kind old new (stopped greeting described (by_it greeting described r));
+          stopped = λ greeting described r. stopped_stopped setup greeting credential round mechanism who (users greeting described) (went greeting r) (greeted_mechanism greeting described) conversation has taken e.kind old new (stopped greeting described (by_it greeting described r));
+          costs = λ greeting described r. stopped_costs setup greeting credential round mechanism who (users greeting described) (went greeting r) (greeted_mechanism greeting described) conversation has taken e.kind old new (stopped greeting described (by_it greeting described r));
         }

@@ -14,7 +14,7 @@ use Rattle.mongo_establish.specs.declared.establisher.PendingConnection.{Pending
 use Rattle.mongo_establish.specs.declared.generation.PoolGeneration.TheVariants.{Normal}
 use Rattle.mongo_establish.specs.declared.login_state.Nonces.{Nonces}
 use Rattle.mongo_establish.specs.declared.options.HandshakerOptions.{HandshakerOptions}
-use Rattle.mongo_establish.specs.Asked.{Asked, asked_for}
+use Rattle.mongo_establish.specs.Setup.{Setup, setup_for}
 use Rattle.mongo_establish.specs.Costs.{ScramAccepted, AcceptedCosts, StoppedCosts, LoginCostsOf, LoginCosts, StoppedLoginCostsOf, StoppedLoginCosts}
 use Rattle.mongo_establish.specs.Greeting.{Greeting}
 use Rattle.mongo_establish.specs.Login.{logging_in}
@@ -26,11 +26,11 @@ abbrev pub pending_over : Connection → PendingConnection
 pending_over connection = record { id = connection.id; address = connection.address; generation = Normal 0 }
 
 module _ (first second : PendingConnection) (options : HandshakerOptions) (credential : Option Credential) (nonces : Nonces) (first_id second_id : ℤ) where
-  abbrev this : Asked
-  this = asked_for first options credential nonces first_id
+  abbrev this : Setup
+  this = setup_for first options credential nonces first_id
 
-  abbrev that : Asked
-  that = asked_for second options credential nonces second_id
+  abbrev that : Setup
+  that = setup_for second options credential nonces second_id
 
   conversation_alike : (conversation : Conversation) (c : Credential) (greeting : Greeting) (past : List Event) (turn : Turn Greeting) → conversation_plan conversation this c greeting past turn → conversation_plan conversation that c greeting past turn
   unfolding conversation_plan

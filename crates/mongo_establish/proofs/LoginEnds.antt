@@ -7,7 +7,7 @@ use Rattle.mongo_command.proofs.Ends.{PlanEnds, ends_ending, ends_unless, ends_r
 use Rattle.mongo_sasl.specs.declared.credential.Credential.{Credential}
 use Rattle.mongo_sasl.specs.declared.mechanism.AuthMechanism.{AuthMechanism}
 use Rattle.mongo_sasl.proofs.LoginEvents.{replies_in, documents_in, AreWithin, LoginEnd, EndsBy}
-use Rattle.mongo_establish.specs.Asked.{Asked}
+use Rattle.mongo_establish.specs.Setup.{Setup}
 use Rattle.mongo_establish.specs.Greeting.{Greeting}
 use Rattle.mongo_establish.specs.Login.{logging_in, speculative_reply, IsMechanism, InvalidRow}
 use Rattle.mongo_establish.specs.Plan.{conversation_plan, validated, mechanism_plan, login_by, login_plan}
@@ -46,42 +46,42 @@ reading_end reads plan x greeting commands replies is l = record {
 
 -- ---- a mechanism
 
-mechanism_ended : (mechanism : AuthMechanism) (asked : Asked) (credential : Credential) (greeting answer : Greeting) (events : List Event) → PlanEnds (mechanism_plan mechanism asked credential greeting) events answer → EndsBy (IsLoginBy mechanism asked credential greeting) greeting (greeted_maximum greeting) events answer
+mechanism_ended : (mechanism : AuthMechanism) (setup : Setup) (credential : Credential) (greeting answer : Greeting) (events : List Event) → PlanEnds (mechanism_plan mechanism setup credential greeting) events answer → EndsBy (IsLoginBy mechanism setup credential greeting) greeting (greeted_maximum greeting) events answer
 unfolding mechanism_plan
-mechanism_ended mechanism asked credential greeting answer events e =
-    let reply = speculative_reply asked greeting in
-    let read = ends_reading (HasConversation mechanism) (validated mechanism asked credential greeting) events answer (one_conversation mechanism) e in
-    let passed = ends_unless (InvalidRow reply mechanism credential) (conversation_plan read.0 asked credential greeting) events answer read.2 in
-    let ended = (joins read.0 asked credential greeting).ended events answer passed.1 in
+mechanism_ended mechanism setup credential greeting answer events e =
+    let reply = speculative_reply setup greeting in
+    let read = ends_reading (HasConversation mechanism) (validated mechanism setup credential greeting) events answer (one_conversation mechanism) e in
+    let passed = ends_unless (InvalidRow reply mechanism credential) (conversation_plan read.0 setup credential greeting) events answer read.2 in
+    let ended = (joins read.0 setup credential greeting).ended events answer passed.1 in
     (ended.0, record { taken = no_row_taken reply mechanism read.0 credential read.1 passed.0; conversation = read.0; has_conversation = read.1; holds = ended.1 }, ended.2)
 
-mechanism_ends : (mechanism : AuthMechanism) (asked : Asked) (credential : Credential) (greeting : Greeting) (commands replies : List (List ℕ)) → IsLoginBy mechanism asked credential greeting commands replies → LoginEnd (mechanism_plan mechanism asked credential greeting) greeting (greeted_maximum greeting) commands replies
+mechanism_ends : (mechanism : AuthMechanism) (setup : Setup) (credential : Credential) (greeting : Greeting) (commands replies : List (List ℕ)) → IsLoginBy mechanism setup credential greeting commands replies → LoginEnd (mechanism_plan mechanism setup credential greeting) greeting (greeted_maximum greeting) commands replies
 unfolding mechanism_plan
-mechanism_ends mechanism asked credential greeting commands replies is =
-    reading_end (HasConversation mechanism) (validated mechanism asked credential greeting) is.conversation greeting commands replies is.has_conversation
-    (unless_end _ _ greeting commands replies (credential_no_row (speculative_reply asked greeting) mechanism credential is.taken) ((joins is.conversation asked credential greeting).ends commands replies is.holds))
+mechanism_ends mechanism setup credential greeting commands replies is =
+    reading_end (HasConversation mechanism) (validated mechanism setup credential greeting) is.conversation greeting commands replies is.has_conversation
+    (unless_end _ _ greeting commands replies (credential_no_row (speculative_reply setup greeting) mechanism credential is.taken) ((joins is.conversation setup credential greeting).ends commands replies is.holds))
 
 -- ---- a login
 
-login_by_ended : (who : Option Credential) (asked : Asked) (greeting answer : Greeting) (events : List Event) → PlanEnds (login_by who asked greeting) events answer → EndsBy (IsLoginOf who asked greeting) greeting (greeted_maximum greeting) events answer
-login_by_ended None asked greeting answer events e =
+login_by_ended : (who : Option Credential) (setup : Setup) (greeting answer : Greeting) (events : List Event) → PlanEnds (login_by who setup greeting) events answer → EndsBy (IsLoginOf who setup greeting) greeting (greeted_maximum greeting) events answer
+login_by_ended None setup greeting answer events e =
     let last = ends_ending greeting events answer e in
     (last.1, (ap documents_in last.0, ap replies_in last.0), subst (AreWithin (greeted_maximum greeting)) (sym last.0) tt)
-login_by_ended (Some credential) asked greeting answer events e =
-    let reads = IsMechanism credential.mechanism (speculative_reply asked greeting) greeting.description in
-    let read = ends_reading reads (λ mechanism. mechanism_plan mechanism asked credential greeting) events answer (one_mechanism credential.mechanism (speculative_reply asked greeting) greeting.description) e in
-    let ended = mechanism_ended read.0 asked credential greeting answer events read.2 in
+login_by_ended (Some credential) setup greeting answer events e =
+    let reads = IsMechanism credential.mechanism (speculative_reply setup greeting) greeting.description in
+    let read = ends_reading reads (λ mechanism. mechanism_plan mechanism setup credential greeting) events answer (one_mechanism credential.mechanism (speculative_reply setup greeting) greeting.description) e in
+    let ended = mechanism_ended read.0 setup credential greeting answer events read.2 in
     (ended.0, (read.0, read.1, ended.1), ended.2)
 
-pub login_ended : (asked : Asked) (greeting answer : Greeting) (events : List Event) → PlanEnds (login_plan asked greeting) events answer → (answer ≡ greeting) × IsLogin asked greeting (documents_in events) (replies_in events) × AreWithin (greeted_maximum greeting) events
+pub login_ended : (setup : Setup) (greeting answer : Greeting) (events : List Event) → PlanEnds (login_plan setup greeting) events answer → (answer ≡ greeting) × IsLogin setup greeting (documents_in events) (replies_in events) × AreWithin (greeted_maximum greeting) events
 unfolding login_plan
-login_ended asked greeting answer events e = login_by_ended (logging_in asked greeting) asked greeting answer events e
+login_ended setup greeting answer events e = login_by_ended (logging_in setup greeting) setup greeting answer events e
 
-login_by_ends : (who : Option Credential) (asked : Asked) (greeting : Greeting) (commands replies : List (List ℕ)) → IsLoginOf who asked greeting commands replies → LoginEnd (login_by who asked greeting) greeting (greeted_maximum greeting) commands replies
-login_by_ends None asked greeting commands replies is = record { events = []; commands_are = is.0; replies_are = is.1; within = tt; ends = λ sendable. record { follows = tt; answer_is = refl } }
-login_by_ends (Some credential) asked greeting commands replies is =
-    reading_end (IsMechanism credential.mechanism (speculative_reply asked greeting) greeting.description) (λ mechanism. mechanism_plan mechanism asked credential greeting) is.0 greeting commands replies is.1 (mechanism_ends is.0 asked credential greeting commands replies is.2)
+login_by_ends : (who : Option Credential) (setup : Setup) (greeting : Greeting) (commands replies : List (List ℕ)) → IsLoginOf who setup greeting commands replies → LoginEnd (login_by who setup greeting) greeting (greeted_maximum greeting) commands replies
+login_by_ends None setup greeting commands replies is = record { events = []; commands_are = is.0; replies_are = is.1; within = tt; ends = λ sendable. record { follows = tt; answer_is = refl } }
+login_by_ends (Some credential) setup greeting commands replies is =
+    reading_end (IsMechanism credential.mechanism (speculative_reply setup greeting) greeting.description) (λ mechanism. mechanism_plan mechanism setup credential greeting) is.0 greeting commands replies is.1 (mechanism_ends is.0 setup credential greeting commands replies is.2)
 
-pub login_ends : (asked : Asked) (greeting : Greeting) (commands replies : List (List ℕ)) → IsLogin asked greeting commands replies → LoginEnd (login_plan asked greeting) greeting (greeted_maximum greeting) commands replies
+pub login_ends : (setup : Setup) (greeting : Greeting) (commands replies : List (List ℕ)) → IsLogin setup greeting commands replies → LoginEnd (login_plan setup greeting) greeting (greeted_maximum greeting) commands replies
 unfolding login_plan
-login_ends asked greeting commands replies is = login_by_ends (logging_in asked greeting) asked greeting commands replies is
+login_ends setup greeting commands replies is = login_by_ends (logging_in setup greeting) setup greeting commands replies is

@@ -13,7 +13,7 @@ use Rattle.mongo_command.specs.Hello.{description_of}
 use Rattle.mongo_command.proofs.FollowedBy.{stopped_first}
 use Rattle.mongo_command.proofs.Steps.{reached_unless, stopped_unless}
 use Rattle.mongo_establish.specs.declared.options.HandshakerOptions.{HandshakerOptions}
-use Rattle.mongo_establish.specs.Asked.{Asked, asked_alone}
+use Rattle.mongo_establish.specs.Setup.{Setup, setup_alone}
 use Rattle.mongo_establish.specs.Established.{GreetedBy, UngreetedBy, IsReplyOf, Monitored}
 use Rattle.mongo_establish.specs.Greeting.{Greeting, greeting_in}
 use Rattle.mongo_establish.specs.Plan.{hello_exchange, hello_plan, login_plan, handshake_plan, establishment_plan}
@@ -23,8 +23,8 @@ use Rattle.mongo_establish.proofs.Handshaken.{is_described}
 use Rattle.mongo_establish.proofs.LoggedIn.{nobody, no_credential}
 
 module _ (address : ServerAddress) (number : ℕ) (options : HandshakerOptions) (id : ℤ) (opened : Connection) (at : opened.address ≡ address) where
-  abbrev alone : Asked
-  alone = asked_alone address number options id
+  abbrev alone : Setup
+  alone = setup_alone address number options id
 
   -- ---- it was described
 

@@ -20,7 +20,7 @@ use Rattle.mongo_establish.specs.declared.client_first.ClientFirst.{ClientFirst}
 use Rattle.mongo_establish.specs.declared.answered_round.AnsweredRound.{AnsweredRound}
 use Rattle.mongo_establish.specs.declared.login_state.Nonces.{Nonces}
 use Rattle.mongo_establish.specs.declared.options.HandshakerOptions.{HandshakerOptions}
-use Rattle.mongo_establish.specs.Asked.{Asked, asked_over}
+use Rattle.mongo_establish.specs.Setup.{Setup, setup_over}
 use Rattle.mongo_establish.specs.Established.{HoldsGreeting, GreetedBy, UngreetedBy, IsReplyOf, ShookHands, StoppedHandshake}
 use Rattle.mongo_establish.specs.First.{IsFirstMessage, IsUnmade, IsRoundOf, first_document, scram_round, round_with}
 use Rattle.mongo_establish.specs.Greeting.{Greeting, greeting_in}
@@ -55,8 +55,8 @@ abbrev pub taken_out : HelloReply → Option (List ℕ) → HelloReply
 taken_out reply login = record reply { command_response = record reply.command_response { speculative_authenticate = left_in login reply.command_response.speculative_authenticate } }
 
 module _ (opened : Connection) (options : HandshakerOptions) (credential : Option Credential) (nonces : Nonces) (id : ℤ) where
-  abbrev asked : Asked
-  asked = asked_over opened options credential nonces id
+  abbrev setup : Setup
+  setup = setup_over opened options credential nonces id
 
   -- ---- before the hello was said
 
@@ -64,20 +64,20 @@ module _ (opened : Connection) (options : HandshakerOptions) (credential : Optio
     abbrev NoFirst : ErrorKind → Type 0
     NoFirst kind = or_else (HelloRow credential) (IsUnmade (speculation credential nonces.first)) kind
 
-    unmade : (kind : ErrorKind) → NoFirst kind → RefusedAtOnce (hello_plan asked) kind
+    unmade : (kind : ErrorKind) → NoFirst kind → RefusedAtOnce (hello_plan setup) kind
     unfolding hello_plan
     unmade kind (inl row) = inl (inl row)
     unmade kind (inr none) =
         let login = speculation credential nonces.first in
-        at_once_more (hello_exchange options credential login opened.address) (hello_plan asked) kind (λ turn h. inr (none.0, h)) (unbuilt options credential login opened fresh kind (unmade_refused options credential login kind none.1))
+        at_once_more (hello_exchange options credential login opened.address) (hello_plan setup) kind (λ turn h. inr (none.0, h)) (unbuilt options credential login opened fresh kind (unmade_refused options credential login kind none.1))
 
-    unmade_keeping : (kind : ErrorKind) (old : State) → NoFirst kind → StoppedKeeping (hello_plan asked) kind old old id id None
-    unmade_keeping kind old h = at_once_keeping (hello_plan asked) kind old id (unmade kind h)
+    unmade_keeping : (kind : ErrorKind) (old : State) → NoFirst kind → StoppedKeeping (hello_plan setup) kind old old id id None
+    unmade_keeping kind old h = at_once_keeping (hello_plan setup) kind old id (unmade kind h)
 
-    pub unmade_stopped : {T : Type 0} (r : Result T Error) (old : State) (first last : Ledgers) → kept_fault opened ≡ None → CostsNothing first last → IfErr r (λ e. NoFirst e.kind) → IfErr r (λ e. StoppedHandshake asked opened opened e.kind old old id first last)
+    pub unmade_stopped : {T : Type 0} (r : Result T Error) (old : State) (first last : Ledgers) → kept_fault opened ≡ None → CostsNothing first last → IfErr r (λ e. NoFirst e.kind) → IfErr r (λ e. StoppedHandshake setup opened opened e.kind old old id first last)
     unmade_stopped (Ok x) old first last faultless nothing h = tt
     unmade_stopped (Err e) old first last faultless nothing h =
-        inl (record { hello = subst (StoppedKeeping (hello_plan asked) e.kind old old id id) (sym faultless) (unmade_keeping e.kind old h); costs = nothing; undescribed = fresh; rest = keeps_all opened })
+        inl (record { hello = subst (StoppedKeeping (hello_plan setup) e.kind old old id id) (sym faultless) (unmade_keeping e.kind old h); costs = nothing; undescribed = fresh; rest = keeps_all opened })
 
   -- ---- the hello
 
@@ -85,18 +85,18 @@ module _ (opened : Connection) (options : HandshakerOptions) (credential : Optio
     abbrev sent : Option (List ℕ)
     sent = option_map first_document first
 
-    stopped_so : {kept : Option ErrorKind} (kind : ErrorKind) (old new : State) (after : ℤ) → StoppedKeeping (hello_exchange options credential sent opened.address) kind old new id after kept → StoppedKeeping (hello_plan asked) kind old new id after kept
+    stopped_so : {kept : Option ErrorKind} (kind : ErrorKind) (old new : State) (after : ℤ) → StoppedKeeping (hello_exchange options credential sent opened.address) kind old new id after kept → StoppedKeeping (hello_plan setup) kind old new id after kept
     unfolding hello_plan
     stopped_so {kept = kept} kind old new after s =
         stopped_unless _ _ kind old new id after made (subst (λ login. StoppedKeeping (hello_exchange options credential login opened.address) kind old new id after kept) (first_speculation credential nonces.first first is_first) s)
 
-    reached_so : (greeting : Greeting) (old new : State) (after : ℤ) → Reached (hello_exchange options credential sent opened.address) greeting old new id after → Reached (hello_plan asked) greeting old new id after
+    reached_so : (greeting : Greeting) (old new : State) (after : ℤ) → Reached (hello_exchange options credential sent opened.address) greeting old new id after → Reached (hello_plan setup) greeting old new id after
     unfolding hello_plan
     reached_so greeting old new after r =
         reached_unless _ _ greeting old new id after made (subst (λ login. Reached (hello_exchange options credential login opened.address) greeting old new id after) (first_speculation credential nonces.first first is_first) r)
 
     pub ungreeted_stopped : {T : Type 0} (r : Result T Error) (connection : Connection) (old new : State) (after : ℤ) (first last : Ledgers) → CostsNothing first last → IfErr r (λ e. UngreetedBy options credential sent opened connection e.kind old new id after)
-        → IfErr r (λ e. StoppedHandshake asked opened connection e.kind old new after first last)
+        → IfErr r (λ e. StoppedHandshake setup opened connection e.kind old new after first last)
     ungreeted_stopped (Ok x) connection old new after first last nothing h = tt
     ungreeted_stopped (Err e) connection old new after first last nothing h = inl (record { hello = stopped_so e.kind old new after h.stopped; costs = nothing; undescribed = h.undescribed; rest = h.rest })
 
@@ -107,12 +107,12 @@ module _ (opened : Connection) (options : HandshakerOptions) (credential : Optio
       abbrev greeting : Greeting
       greeting = greeting_in opened.address reply
 
-      hello_reached : Reached (hello_plan asked) greeting old middle id between
+      hello_reached : Reached (hello_plan setup) greeting old middle id between
       hello_reached = reached_so greeting old middle between greeted.reached
 
       -- the login is asked anew, over the described connection
-      abbrev anew : Asked
-      anew = asked_over described options credential nonces between
+      abbrev anew : Setup
+      anew = setup_over described options credential nonces between
 
       held_round : IsRoundOf credential anew greeting round
       unfolding greeting_in
@@ -130,7 +130,7 @@ module _ (opened : Connection) (options : HandshakerOptions) (credential : Optio
           }
 
       pub login_stopped : {T : Type 0} (r : Result T Error) (connection : Connection) (new : State) (after : ℤ) (first last : Ledgers) → KeepsRest described connection
-          → IfErr r (λ e. LoginStops anew described.stream_description round e.kind (kept_fault connection) (balance middle between first) (balance new after last)) → IfErr r (λ e. StoppedHandshake asked opened connection e.kind old new after first last)
+          → IfErr r (λ e. LoginStops anew described.stream_description round e.kind (kept_fault connection) (balance middle between first) (balance new after last)) → IfErr r (λ e. StoppedHandshake setup opened connection e.kind old new after first last)
       login_stopped (Ok x) connection new after first last later h = tt
       login_stopped (Err e) connection new after first last later h = inr (record {
         greeting = greeting;
@@ -142,10 +142,10 @@ module _ (opened : Connection) (options : HandshakerOptions) (credential : Optio
         held = held connection later;
       })
 
-      is_reply : (answer : HelloReply) → answer ≡ taken_out reply sent → IsReplyOf asked greeting answer
+      is_reply : (answer : HelloReply) → answer ≡ taken_out reply sent → IsReplyOf setup greeting answer
       unfolding greeting_in
       is_reply answer is =
-          subst (IsReplyOf asked (greeting_in opened.address reply)) (sym is) (record {
+          subst (IsReplyOf setup (greeting_in opened.address reply)) (sym is) (record {
             address = greeted.address;
             description_is = ap (λ address. description_of address reply.command_response) (sym greeted.address);
             connection_id = refl;
@@ -155,13 +155,13 @@ module _ (opened : Connection) (options : HandshakerOptions) (credential : Optio
           })
 
       pub shook : (connection : Connection) (new : State) (after : ℤ) (first last : Ledgers) (answer : HelloReply) → KeepsRest described connection → kept_fault connection ≡ None → answer ≡ taken_out reply sent
-          → LogsIn anew described.stream_description round (balance middle between first) (balance new after last) → ShookHands asked opened connection old new after first last answer
+          → LogsIn anew described.stream_description round (balance middle between first) (balance new after last) → ShookHands setup opened connection old new after first last answer
       shook connection new after first last answer later faultless is h =
           let login = reached_alike (pending_over described) (pending_over opened) options credential nonces between id greeting middle new between after (h.reached greeting greeted.described.holds.description_is held_round) in
-          let whole = handshake_reached asked greeting old middle new between after hello_reached login in
+          let whole = handshake_reached setup greeting old middle new between after hello_reached login in
           record {
-            script = script_by asked greeting old new after whole tt;
-            scripted = scripted_by asked greeting old new after whole tt;
+            script = script_by setup greeting old new after whole tt;
+            scripted = scripted_by setup greeting old new after whole tt;
             middle = middle;
             between = between;
             hello = hello_reached;

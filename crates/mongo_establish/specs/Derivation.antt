@@ -9,7 +9,7 @@ use Rattle.mongo_scram.specs.Costs.{key_by}
 use Rattle.mongo_scram.specs.Plan.{opening}
 use Rattle.mongo_establish.specs.declared.conversation.Conversation.{Conversation}
 use Rattle.mongo_establish.specs.declared.conversation.Conversation.TheVariants.{Scram}
-use Rattle.mongo_establish.specs.Asked.{Asked}
+use Rattle.mongo_establish.specs.Setup.{Setup}
 use Rattle.mongo_establish.specs.Greeting.{Greeting}
 use Rattle.mongo_establish.specs.Login.{logging_in, speculative_reply, IsMechanism, InvalidRow, scram_handed_by}
 use Rattle.mongo_establish.specs.Plan.{hello_plan}
@@ -18,27 +18,27 @@ use Rattle.mongo_establish.specs.Spoken.{conversation_of}
 -- ---- the plan
 
 -- SCRAM's opening ends with the key, whose password is usable
-abbrev pub scram_derivation : ScramVersion → Asked → Credential → Greeting → Plan (Option SaltedKey)
-scram_derivation version asked credential greeting =
-    followed_by (opening (scram_handed_by version asked credential greeting)) (λ challenge. ending (Some (key_by (scram_handed_by version asked credential greeting) challenge)))
+abbrev pub scram_derivation : ScramVersion → Setup → Credential → Greeting → Plan (Option SaltedKey)
+scram_derivation version setup credential greeting =
+    followed_by (opening (scram_handed_by version setup credential greeting)) (λ challenge. ending (Some (key_by (scram_handed_by version setup credential greeting) challenge)))
 
 -- it follows where the mechanism takes the credential; another conversation derives from none
-unfoldable pub derivation_by : Option Conversation → AuthMechanism → Asked → Credential → Greeting → Plan (Option SaltedKey)
-derivation_by (Some (Scram version)) mechanism asked credential greeting = unless (InvalidRow (speculative_reply asked greeting) mechanism credential) (scram_derivation version asked credential greeting)
-derivation_by conversation mechanism asked credential greeting = ending None
+unfoldable pub derivation_by : Option Conversation → AuthMechanism → Setup → Credential → Greeting → Plan (Option SaltedKey)
+derivation_by (Some (Scram version)) mechanism setup credential greeting = unless (InvalidRow (speculative_reply setup greeting) mechanism credential) (scram_derivation version setup credential greeting)
+derivation_by conversation mechanism setup credential greeting = ending None
 
 -- nor does a server where nobody logs in ask for one
-abbrev pub derivation_of : Option Credential → Asked → Greeting → Plan (Option SaltedKey)
-derivation_of None asked greeting = ending None
-derivation_of (Some credential) asked greeting =
-    reading (IsMechanism credential.mechanism (speculative_reply asked greeting) greeting.description) (λ mechanism. derivation_by (conversation_of mechanism) mechanism asked credential greeting)
+abbrev pub derivation_of : Option Credential → Setup → Greeting → Plan (Option SaltedKey)
+derivation_of None setup greeting = ending None
+derivation_of (Some credential) setup greeting =
+    reading (IsMechanism credential.mechanism (speculative_reply setup greeting) greeting.description) (λ mechanism. derivation_by (conversation_of mechanism) mechanism setup credential greeting)
 
-unfoldable pub login_derivation : Asked → Greeting → Plan (Option SaltedKey)
-login_derivation asked greeting = derivation_of (logging_in asked greeting) asked greeting
+unfoldable pub login_derivation : Setup → Greeting → Plan (Option SaltedKey)
+login_derivation setup greeting = derivation_of (logging_in setup greeting) setup greeting
 
 -- the hello, and then the login up to its key
-unfoldable pub derivation_plan : Asked → Plan (Option SaltedKey)
-derivation_plan asked = followed_by (hello_plan asked) (login_derivation asked)
+unfoldable pub derivation_plan : Setup → Plan (Option SaltedKey)
+derivation_plan setup = followed_by (hello_plan setup) (login_derivation setup)
 
 -- ---- what reply bytes call for
 
@@ -48,10 +48,10 @@ key_in (ends key) = key
 key_in turn = None
 
 -- The reply bytes lead to a derivation from this key, or to none.
-pub record LeadsToKey (asked : Asked) (bytes : List ℕ) (key : Option SaltedKey) : Type 0 where
+pub record LeadsToKey (setup : Setup) (bytes : List ℕ) (key : Option SaltedKey) : Type 0 where
   pub outcome : Turn (Option SaltedKey)
   pub commands : List Said
   pub taken : List ℕ
   pub unread : List ℕ
-  pub leads : Leads (derivation_plan asked) bytes outcome commands taken unread
+  pub leads : Leads (derivation_plan setup) bytes outcome commands taken unread
   pub key_is : key ≡ key_in outcome

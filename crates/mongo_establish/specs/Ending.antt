@@ -7,7 +7,7 @@ use Rattle.mongo_command.specs.Exchange.{CountsStay}
 use Rattle.mongo_scram.specs.Costs.{Ledgers, SameEntries}
 use Rattle.mongo_establish.specs.declared.establisher.EstablishError.{EstablishError}
 use Rattle.mongo_establish.specs.declared.establisher.PooledConnection.{PooledConnection}
-use Rattle.mongo_establish.specs.Asked.{Asked}
+use Rattle.mongo_establish.specs.Setup.{Setup}
 use Rattle.mongo_establish.specs.Established.{Established}
 use Rattle.mongo_establish.specs.Greeting.{Greeting}
 use Rattle.mongo_establish.specs.KeyCosts.{CostsAsLed}
@@ -16,20 +16,20 @@ use Rattle.mongo_establish.specs.Script.{HasScript}
 use Rattle.mongo_establish.specs.Stopped.{StoppedIn}
 
 -- The link stood so before and so after, the next id is this one, and the counter and the cache went on so.
-pub record EndsEstablishment (asked : Asked) (old new : State) (after : ℤ) (first last : Ledgers) (result : Result PooledConnection EstablishError) : Type 0 where
+pub record EndsEstablishment (setup : Setup) (old new : State) (after : ℤ) (first last : Ledgers) (result : Result PooledConnection EstablishError) : Type 0 where
   -- what was written and read is exactly a script, the connection is what its replies say, and what was derived and kept is what its login takes
-  pub established : IfOk result (Established asked old new after first last)
+  pub established : IfOk result (Established setup old new after first last)
   -- a refusal says why it comes, how far the establishment had come, what it left, and what was derived
-  pub refused : IfErr result (λ e. StoppedIn e.handshake_phase asked e.cause.kind old new after first last)
+  pub refused : IfErr result (λ e. StoppedIn e.handshake_phase setup e.cause.kind old new after first last)
   -- a script's replies at the front of the bytes left are answered by a connection, unless the link fails or memory runs out
-  pub complete : (bytes : List ℕ) → old.left ≡ Some bytes → HasScript asked bytes →
+  pub complete : (bytes : List ℕ) → old.left ≡ Some bytes → HasScript setup bytes →
       Unfailed old new → IfErr result (λ e. e.cause.kind ≡ OutOfMemory)
   -- bytes left that call for a refusal get just that one, and the link is left as it says; those that lead to an end get none
-  pub exact : (bytes taken unread : List ℕ) (outcome : Turn Greeting) (commands : List Said) → old.left ≡ Some bytes → Leads (establishment_plan asked) bytes outcome commands taken unread →
+  pub exact : (bytes taken unread : List ℕ) (outcome : Turn Greeting) (commands : List Said) → old.left ≡ Some bytes → Leads (establishment_plan setup) bytes outcome commands taken unread →
       Unfailed old new →
-      IfErr result (λ e. (e.cause.kind ≡ OutOfMemory) ⊎ ((outcome ≡ refuses e.cause.kind) × LeftBy commands unread old new asked.first_id after))
+      IfErr result (λ e. (e.cause.kind ≡ OutOfMemory) ⊎ ((outcome ≡ refuses e.cause.kind) × LeftBy commands unread old new setup.first_id after))
   -- the bytes left say which key was derived, if any, unless the link fails or memory runs out
-  pub led : CostsAsLed result asked old new first last
+  pub led : CostsAsLed result setup old new first last
   -- a refusal leaves the entries as they were, unless a login had been accepted
   pub entries : IfErr result (λ e. (e.cause.kind ≡ IncompatibleServer) ⊎ SameEntries first last)
   pub counts : CountsStay old new

@@ -12,7 +12,7 @@ use Rattle.mongo_scram.specs.declared.conversation.FirstRound.{FirstRound as Scr
 use Rattle.mongo_scram.specs.Client.{message_of, nonce_of, first_source, includes_db, SameFirst, speculated_of}
 use Rattle.mongo_scram.specs.Commands.{first_body}
 use Rattle.mongo_scram.specs.Plan.{Speculated}
-use Rattle.mongo_establish.specs.Asked.{Asked}
+use Rattle.mongo_establish.specs.Setup.{Setup}
 use Rattle.mongo_establish.specs.Greeting.{Greeting}
 use Rattle.mongo_establish.specs.Login.{speculative_reply, speculated_by}
 use Rattle.mongo_establish.specs.declared.conversation.Conversation.{Conversation}
@@ -85,11 +85,11 @@ round_with first answer = None
 
 -- A first round of the conversation is there where the greeting answers to what went with the hello; a round of SCRAM is what it
 -- answers.
-pub record IsRoundBy (conversation : Option Conversation) (credential : Credential) (asked : Asked) (greeting : Greeting) (round : Option AnsweredRound) : Type 0 where
-  pub there : is_some round ≡ is_some (speculative_reply asked greeting)
-  pub scram : IsScram conversation → speculated_of (scram_round round) ≡ speculated_by credential asked greeting
+pub record IsRoundBy (conversation : Option Conversation) (credential : Credential) (setup : Setup) (greeting : Greeting) (round : Option AnsweredRound) : Type 0 where
+  pub there : is_some round ≡ is_some (speculative_reply setup greeting)
+  pub scram : IsScram conversation → speculated_of (scram_round round) ≡ speculated_by credential setup greeting
 
 -- the first round that went with the hello
-abbrev pub IsRoundOf : Option Credential → Asked → Greeting → Option AnsweredRound → Type 0
-IsRoundOf None asked greeting round = ⊤
-IsRoundOf (Some credential) asked greeting round = IsRoundBy (conversation_of (mechanism_before credential.mechanism)) credential asked greeting round
+abbrev pub IsRoundOf : Option Credential → Setup → Greeting → Option AnsweredRound → Type 0
+IsRoundOf None setup greeting round = ⊤
+IsRoundOf (Some credential) setup greeting round = IsRoundBy (conversation_of (mechanism_before credential.mechanism)) credential setup greeting round

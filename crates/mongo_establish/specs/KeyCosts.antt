@@ -8,7 +8,7 @@ use Rattle.mongo_scram.specs.Cache.{entries_of, Adds}
 use Rattle.mongo_scram.specs.Costs.{Ledgers, HasEntry, Derives, SameEntries, CostsNothing}
 use Rattle.mongo_scram.specs.Entry.{salted_of}
 use Rattle.mongo_establish.specs.declared.establisher.EstablishError.{EstablishError}
-use Rattle.mongo_establish.specs.Asked.{Asked}
+use Rattle.mongo_establish.specs.Setup.{Setup}
 use Rattle.mongo_establish.specs.Derivation.{LeadsToKey}
 
 -- ---- what a key costs
@@ -37,26 +37,26 @@ RefusedTakes (Some key) first last = SpendsKey key first last
 -- ---- over told bytes
 
 -- the bytes lead to this key, and it was taken so
-pub record TakesAsLed (asked : Asked) (bytes : List ℕ) (takes : Option SaltedKey → Type 0) : Type 0 where
+pub record TakesAsLed (setup : Setup) (bytes : List ℕ) (takes : Option SaltedKey → Type 0) : Type 0 where
   pub key : Option SaltedKey
-  pub leads : LeadsToKey asked bytes key
+  pub leads : LeadsToKey setup bytes key
   pub taken : takes key
 
 -- the server names no service: the login's key was put in
-pub record UnnamedOver (asked : Asked) (kind : ErrorKind) (bytes : List ℕ) (first last : Ledgers) : Type 0 where
+pub record UnnamedOver (setup : Setup) (kind : ErrorKind) (bytes : List ℕ) (first last : Ledgers) : Type 0 where
   pub kind_is : kind ≡ IncompatibleServer
-  pub led : TakesAsLed asked bytes (λ key. AcceptedTakes key first last)
+  pub led : TakesAsLed setup bytes (λ key. AcceptedTakes key first last)
 
 -- the handshake was refused: the login's key, if it came so far, was derived and isn't put in
-pub record RefusedOver (asked : Asked) (kind : ErrorKind) (bytes : List ℕ) (first last : Ledgers) : Type 0 where
+pub record RefusedOver (setup : Setup) (kind : ErrorKind) (bytes : List ℕ) (first last : Ledgers) : Type 0 where
   pub other : kind ≡ IncompatibleServer → ⊥
-  pub led : TakesAsLed asked bytes (λ key. RefusedTakes key first last)
+  pub led : TakesAsLed setup bytes (λ key. RefusedTakes key first last)
 
 -- what an establishment costs over these bytes, unless memory ran out
-abbrev pub CostsOver : {T : Type 0} → Result T EstablishError → Asked → List ℕ → Ledgers → Ledgers → Type 0
-CostsOver (Ok pooled) asked bytes first last = TakesAsLed asked bytes (λ key. AcceptedTakes key first last)
-CostsOver (Err e) asked bytes first last = (e.cause.kind ≡ OutOfMemory) ⊎ (UnnamedOver asked e.cause.kind bytes first last ⊎ RefusedOver asked e.cause.kind bytes first last)
+abbrev pub CostsOver : {T : Type 0} → Result T EstablishError → Setup → List ℕ → Ledgers → Ledgers → Type 0
+CostsOver (Ok pooled) setup bytes first last = TakesAsLed setup bytes (λ key. AcceptedTakes key first last)
+CostsOver (Err e) setup bytes first last = (e.cause.kind ≡ OutOfMemory) ⊎ (UnnamedOver setup e.cause.kind bytes first last ⊎ RefusedOver setup e.cause.kind bytes first last)
 
 -- where a link tells its bytes and doesn't fail, they decide what an establishment costs
-pub record CostsAsLed {T : Type 0} (result : Result T EstablishError) (asked : Asked) (old new : State) (first last : Ledgers) : Type 0 where
-  pub over : (bytes : List ℕ) → old.left ≡ Some bytes → Unfailed old new → CostsOver result asked bytes first last
+pub record CostsAsLed {T : Type 0} (result : Result T EstablishError) (setup : Setup) (old new : State) (first last : Ledgers) : Type 0 where
+  pub over : (bytes : List ℕ) → old.left ≡ Some bytes → Unfailed old new → CostsOver result setup bytes first last

@@ -8,7 +8,7 @@ use Rattle.mongo_establish.specs.declared.generation.ConnectionGeneration.{Conne
 use Rattle.mongo_establish.specs.declared.establisher.HandshakePhase.{HandshakePhase}
 use Rattle.mongo_establish.specs.declared.establisher.HandshakePhase.TheVariants.{PreHello, PostHello}
 use Rattle.mongo_establish.specs.Generation.{generation_of}
-use Rattle.mongo_establish.specs.Asked.{Asked}
+use Rattle.mongo_establish.specs.Setup.{Setup}
 use Rattle.mongo_establish.specs.Costs.{LoginCosts, StoppedLoginCosts}
 use Rattle.mongo_establish.specs.Greeting.{Greeting}
 use Rattle.mongo_establish.specs.Plan.{hello_plan, login_plan, establishment_plan}
@@ -17,30 +17,30 @@ use Rattle.mongo_establish.specs.Refusal.{NoService}
 -- ---- what a call did
 
 -- the login was stopped, and cost this
-pub record LoginRefused (asked : Asked) (greeting : Greeting) (kind : ErrorKind) (old new : Balance) : Type 0 where
-  pub login : Stopped (login_plan asked greeting) kind old.state new.state old.id new.id
-  pub costs : StoppedLoginCosts asked greeting kind old new
+pub record LoginRefused (setup : Setup) (greeting : Greeting) (kind : ErrorKind) (old new : Balance) : Type 0 where
+  pub login : Stopped (login_plan setup greeting) kind old.state new.state old.id new.id
+  pub costs : StoppedLoginCosts setup greeting kind old new
 
 -- it was followed to its end, and cost this, and then the server had named no service
-pub record UnnamedAfterLogin (asked : Asked) (greeting : Greeting) (kind : ErrorKind) (old new : Balance) : Type 0 where
-  pub login : Reached (login_plan asked greeting) greeting old.state new.state old.id new.id
-  pub costs : LoginCosts asked greeting old new
-  pub unnamed : NoService asked.pending.generation greeting.description kind
+pub record UnnamedAfterLogin (setup : Setup) (greeting : Greeting) (kind : ErrorKind) (old new : Balance) : Type 0 where
+  pub login : Reached (login_plan setup greeting) greeting old.state new.state old.id new.id
+  pub costs : LoginCosts setup greeting old new
+  pub unnamed : NoService setup.pending.generation greeting.description kind
 
 -- the hello had described the server, and what follows it was stopped, from where the hello had ended
-pub record StoppedAfterHello (asked : Asked) (generation : ConnectionGeneration) (kind : ErrorKind) (old new : State) (after : ℤ) (first last : Ledgers) : Type 0 where
+pub record StoppedAfterHello (setup : Setup) (generation : ConnectionGeneration) (kind : ErrorKind) (old new : State) (after : ℤ) (first last : Ledgers) : Type 0 where
   pub greeting : Greeting
   pub middle : State
   pub between : ℤ
-  pub hello : Reached (hello_plan asked) greeting old middle asked.first_id between
-  pub generation_is : generation ≡ generation_of asked.pending.generation greeting.description
-  pub stopped : LoginRefused asked greeting kind (balance middle between first) (balance new after last) ⊎ UnnamedAfterLogin asked greeting kind (balance middle between first) (balance new after last)
+  pub hello : Reached (hello_plan setup) greeting old middle setup.first_id between
+  pub generation_is : generation ≡ generation_of setup.pending.generation greeting.description
+  pub stopped : LoginRefused setup greeting kind (balance middle between first) (balance new after last) ⊎ UnnamedAfterLogin setup greeting kind (balance middle between first) (balance new after last)
 
 -- The phase says which part was stopped: the hello, with the pool's generation, which costs nothing, or what follows it, with
 -- the connection's.
-abbrev pub StoppedIn : HandshakePhase → Asked → ErrorKind → State → State → ℤ → Ledgers → Ledgers → Type 0
-StoppedIn (PreHello generation) asked kind old new after first last = (generation ≡ asked.pending.generation) × Stopped (hello_plan asked) kind old new asked.first_id after × CostsNothing first last
-StoppedIn (PostHello generation) asked kind old new after first last = StoppedAfterHello asked generation kind old new after first last
+abbrev pub StoppedIn : HandshakePhase → Setup → ErrorKind → State → State → ℤ → Ledgers → Ledgers → Type 0
+StoppedIn (PreHello generation) setup kind old new after first last = (generation ≡ setup.pending.generation) × Stopped (hello_plan setup) kind old new setup.first_id after × CostsNothing first last
+StoppedIn (PostHello generation) setup kind old new after first last = StoppedAfterHello setup generation kind old new after first last
 
 -- ---- what reply bytes call for
 
@@ -53,18 +53,18 @@ pub record Refusal : Type 0 where
   pub unread : List ℕ
 
 -- the bytes lead the hello to its end, by which the connection has this generation
-pub record LeadsPastHello (asked : Asked) (bytes : List ℕ) (generation : ConnectionGeneration) : Type 0 where
+pub record LeadsPastHello (setup : Setup) (bytes : List ℕ) (generation : ConnectionGeneration) : Type 0 where
   pub greeting : Greeting
   pub commands : List Said
   pub taken : List ℕ
   pub unread : List ℕ
-  pub leads : Leads (hello_plan asked) bytes (ends greeting) commands taken unread
-  pub generation_is : generation ≡ generation_of asked.pending.generation greeting.description
+  pub leads : Leads (hello_plan setup) bytes (ends greeting) commands taken unread
+  pub generation_is : generation ≡ generation_of setup.pending.generation greeting.description
 
-abbrev pub LeadsIn : HandshakePhase → Asked → List ℕ → Refusal → Type 0
-LeadsIn (PreHello generation) asked bytes refusal = (generation ≡ asked.pending.generation) × Leads (hello_plan asked) bytes (refuses refusal.kind) refusal.commands refusal.taken refusal.unread
-LeadsIn (PostHello generation) asked bytes refusal = LeadsPastHello asked bytes generation × Leads (establishment_plan asked) bytes (refuses refusal.kind) refusal.commands refusal.taken refusal.unread
+abbrev pub LeadsIn : HandshakePhase → Setup → List ℕ → Refusal → Type 0
+LeadsIn (PreHello generation) setup bytes refusal = (generation ≡ setup.pending.generation) × Leads (hello_plan setup) bytes (refuses refusal.kind) refusal.commands refusal.taken refusal.unread
+LeadsIn (PostHello generation) setup bytes refusal = LeadsPastHello setup bytes generation × Leads (establishment_plan setup) bytes (refuses refusal.kind) refusal.commands refusal.taken refusal.unread
 
 -- the reply bytes lead to this refusal
-abbrev pub IsRefusal : Asked → List ℕ → Refusal → Type 0
-IsRefusal asked bytes refusal = LeadsIn refusal.phase asked bytes refusal
+abbrev pub IsRefusal : Setup → List ℕ → Refusal → Type 0
+IsRefusal setup bytes refusal = LeadsIn refusal.phase setup bytes refusal

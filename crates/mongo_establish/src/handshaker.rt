@@ -50,7 +50,7 @@ impl Handshaker {
     ghost use Rattle.mongo_command.specs.Exchange.{CountsStay, DocumentRefused};
     ghost use Rattle.mongo_scram.specs.Cache.{entries_of};
     ghost use Rattle.mongo_scram.specs.Costs.{ledgers};
-    ghost use Rattle.mongo_establish.specs.Asked.{asked_over};
+    ghost use Rattle.mongo_establish.specs.Setup.{setup_over};
     ghost use Rattle.mongo_establish.specs.Client.{common_hello, hello_with};
     ghost use Rattle.mongo_establish.specs.Established.{GreetedBy, UngreetedBy, ShookHands, StoppedHandshake};
     ghost use Rattle.mongo_establish.specs.First.{first_document};
@@ -106,22 +106,22 @@ impl Handshaker {
 
         // What was written and read is exactly a script, the connection and the reply are what its replies say, and so is what was
         // derived.
-        ensures shook { IfOk result (ShookHands (asked_over connection.old (options_in self.now) (option_copied credential.entry) inputs.now.nonces state.old.ids) connection.old connection.new
+        ensures shook { IfOk result (ShookHands (setup_over connection.old (options_in self.now) (option_copied credential.entry) inputs.now.nonces state.old.ids) connection.old connection.new
             (L.state link.old) (L.state link.new) state.new.ids (ledgers steps.old state.old.salted) (ledgers steps.new state.new.salted)) }
 
         // A refusal says why it comes, how far the handshake had come, what it left and what was derived: the connection keeps the
         // fault of an exchange that failed, where that left one, and else none.
-        ensures refused { IfErr result (λ e. StoppedHandshake (asked_over connection.old (options_in self.now) (option_copied credential.entry) inputs.now.nonces state.old.ids) connection.old connection.new e.kind
+        ensures refused { IfErr result (λ e. StoppedHandshake (setup_over connection.old (options_in self.now) (option_copied credential.entry) inputs.now.nonces state.old.ids) connection.old connection.new e.kind
             (L.state link.old) (L.state link.new) state.new.ids (ledgers steps.old state.old.salted) (ledgers steps.new state.new.salted)) }
 
         // A script's replies at the front of the bytes left are answered by Ok, unless the link fails or memory runs out.
-        ensures complete { (bytes : List ℕ) → (L.state link.old).left ≡ Some bytes → HasScript (asked_over connection.old (options_in self.now) (option_copied credential.entry) inputs.now.nonces state.old.ids) bytes →
+        ensures complete { (bytes : List ℕ) → (L.state link.old).left ≡ Some bytes → HasScript (setup_over connection.old (options_in self.now) (option_copied credential.entry) inputs.now.nonces state.old.ids) bytes →
             Unfailed (L.state link.old) (L.state link.new) →
             IfErr result (λ e. e.kind ≡ OutOfMemory) }
 
         // Bytes left that call for a refusal get just that one, and the link is left as it says; those that lead to an end get none.
         ensures exact { (bytes taken unread : List ℕ) (outcome : Turn Greeting) (commands : List Said) → (L.state link.old).left ≡ Some bytes →
-            Leads (handshake_plan (asked_over connection.old (options_in self.now) (option_copied credential.entry) inputs.now.nonces state.old.ids)) bytes outcome commands taken unread →
+            Leads (handshake_plan (setup_over connection.old (options_in self.now) (option_copied credential.entry) inputs.now.nonces state.old.ids)) bytes outcome commands taken unread →
             Unfailed (L.state link.old) (L.state link.new) →
             IfErr result (λ e. (e.kind ≡ OutOfMemory) ⊎ ((outcome ≡ refuses e.kind) × LeftBy commands unread
             (L.state link.old) (L.state link.new) state.old.ids state.new.ids)) }

@@ -40,7 +40,7 @@ pub(crate) fn ask_mechanisms(
     credential: Option<&Credential>,
     body: &mut RawDocumentBuf,
 ) -> Result<(), Error>
-    ensures asked { OnOk result (body.new ≡ asking_mechanisms (option_copied credential.entry) body.old) }
+    ensures setup { OnOk result (body.new ≡ asking_mechanisms (option_copied credential.entry) body.old) }
     ensures refused { IfErr result (λ e. DocumentRefused e.kind (asking_mechanisms (option_copied credential.entry) body.old)) }
 {
     match credential {

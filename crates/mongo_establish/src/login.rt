@@ -7,7 +7,7 @@ ghost use Rattle.mongo_command.specs.Exchange.{CountsStay};
 ghost use Rattle.mongo_scram.specs.Cache.{entries_of};
 ghost use Rattle.mongo_scram.specs.Costs.{ledgers, balance};
 ghost use Rattle.mongo_establish.specs.declared.conversation.Conversation.TheVariants.{Scram};
-ghost use Rattle.mongo_establish.specs.Asked.{asked_over};
+ghost use Rattle.mongo_establish.specs.Setup.{setup_over};
 ghost use Rattle.mongo_establish.specs.Login.{holds_users, IsMechanism, InvalidRow};
 ghost use Rattle.mongo_establish.specs.LoggingIn.{Converses, IsCredentialTaken, LogsIn, LoginStops};
 ghost use Rattle.mongo_establish.specs.Speculation.{HelloRow, SpeaksFor};
@@ -38,9 +38,9 @@ pub(crate) fn log_in<L: Link, G: Ledger>(
     requires made { (kind : ErrorKind) → HelloRow (option_copied credential) kind → ⊥ }
     requires described { IsSome connection.old.stream_description }
     requires faultless { kept_fault connection.old ≡ None }
-    ensures logged_in { OnOk result (LogsIn (asked_over connection.old options.now (option_copied credential.entry) inputs.now.nonces state.old.ids) connection.old.stream_description round
+    ensures logged_in { OnOk result (LogsIn (setup_over connection.old options.now (option_copied credential.entry) inputs.now.nonces state.old.ids) connection.old.stream_description round
         (balance (L.state link.old) state.old.ids (ledgers steps.old state.old.salted)) (balance (L.state link.new) state.new.ids (ledgers steps.new state.new.salted))) }
-    ensures refused { IfErr result (λ e. LoginStops (asked_over connection.old options.now (option_copied credential.entry) inputs.now.nonces state.old.ids) connection.old.stream_description round e.kind (kept_fault connection.new)
+    ensures refused { IfErr result (λ e. LoginStops (setup_over connection.old options.now (option_copied credential.entry) inputs.now.nonces state.old.ids) connection.old.stream_description round e.kind (kept_fault connection.new)
         (balance (L.state link.old) state.old.ids (ledgers steps.old state.old.salted)) (balance (L.state link.new) state.new.ids (ledgers steps.new state.new.salted))) }
     ensures entries { OnErr result (entries_of state.new.salted ≡ entries_of state.old.salted) }
     ensures connection { KeepsRest connection.old connection.new }
@@ -88,7 +88,7 @@ fn converse<L: Link, G: Ledger>(
     steps: &mut Steps<G>,
 ) -> Result<(), Error>
     requires faultless { kept_fault connection.old ≡ None }
-    ensures converses { Converses result conversation (asked_over connection.old options.now (Some credential.now) inputs.now.nonces state.old.ids) credential.now round connection.old connection.new
+    ensures converses { Converses result conversation (setup_over connection.old options.now (Some credential.now) inputs.now.nonces state.old.ids) credential.now round connection.old connection.new
         (balance (L.state link.old) state.old.ids (ledgers steps.old state.old.salted)) (balance (L.state link.new) state.new.ids (ledgers steps.new state.new.salted)) }
 {
     let api = options.auth_options.server_api.as_ref();
@@ -144,7 +144,7 @@ fn by_scram<L: Link, G: Ledger>(
     steps: &mut Steps<G>,
 ) -> Result<(), Error>
     requires faultless { kept_fault connection.old ≡ None }
-    ensures converses { Converses result (Scram version) (asked_over connection.old options.now (Some credential.now) inputs.now.nonces state.old.ids) credential.now round connection.old connection.new
+    ensures converses { Converses result (Scram version) (setup_over connection.old options.now (Some credential.now) inputs.now.nonces state.old.ids) credential.now round connection.old connection.new
         (balance (L.state link.old) state.old.ids (ledgers steps.old state.old.salted)) (balance (L.state link.new) state.new.ids (ledgers steps.new state.new.salted)) }
 {
     version.authenticate_stream(

@@ -6,7 +6,7 @@ use Rattle.mongo_establish.specs.declared.establisher.PooledConnection.{PooledCo
 use Rattle.mongo_establish.specs.declared.generation.ConnectionGeneration.TheVariants.{Normal}
 use Rattle.mongo_establish.specs.declared.generation.PoolGeneration.TheVariants.{Normal as PoolNormal}
 use Rattle.mongo_establish.specs.declared.login_state.Nonces.{Nonces}
-use Rattle.mongo_establish.specs.Asked.{Asked, asked_for}
+use Rattle.mongo_establish.specs.Setup.{Setup, setup_for}
 use Rattle.mongo_establish.specs.Options.{options_of_establisher}
 use Rattle.mongo_example.specs.declared.pool.Pool.{Pool}
 use Rattle.mongo_example.specs.Example.{example_server, example_user, example_handshake}
@@ -23,8 +23,8 @@ pub record IsFresh (pool : Pool) : Type 0 where
   pub ids : pool.state.ids ≡ pos 0
 
 -- what an establishment is handed: a login of the pool's user, whose first command has the pool's next id
-abbrev pub asked_by_pool : Pool → PendingConnection → Nonces → Asked
-asked_by_pool pool pending nonces = asked_for pending (options_of_establisher pool.establisher) (Some pool.credential) nonces pool.state.ids
+abbrev pub setup_by_pool : Pool → PendingConnection → Nonces → Setup
+setup_by_pool pool pending nonces = setup_for pending (options_of_establisher pool.establisher) (Some pool.credential) nonces pool.state.ids
 
 -- it is the one that was asked for, of its pool's generation, and the server has said what it is
 pub record IsReady (pending : PendingConnection) (pooled : PooledConnection) : Type 0 where

@@ -6,12 +6,12 @@ use Rattle.std.proofs.lemmas.Fmt.{decimal_digit}
 use Rattle.mongo_scram.specs.declared.cache.SaltedKey.{SaltedKey}
 use Rattle.mongo_scram.specs.declared.scram_version.ScramVersion.{ScramVersion}
 use Rattle.mongo_scram.specs.declared.scram_version.ScramVersion.TheVariants.{Sha1, Sha256}
-use Rattle.mongo_generate.specs.Generated.{exchange_at, key_count}
+use Rattle.mongo_generate.specs.Generated.{authentication_at, key_count}
 use Rattle.mongo_generate.specs.Login.{key_of}
 
 -- the key of the login of a number
 abbrev pub key_at : ℕ → SaltedKey
-key_at k = key_of (exchange_at k)
+key_at k = key_of (authentication_at k)
 
 -- by what is left of it modulo 2, 7, 3 and 5
 abbrev key_by_remainders : ℕ → ℕ → ℕ → ℕ → SaltedKey

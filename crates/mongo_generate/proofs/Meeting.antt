@@ -1,4 +1,4 @@
--- A client of a possible exchange over the replies of its server: there is a script, by which it writes its last message, and a
+-- A client of a possible authentication over the replies of its server: there is a script, by which it writes its last message, and a
 -- key, which it derives where that has no entry.
 use Rattle.std.proofs.Common.{◌≡◌, ℕ, ℤ, pos, ◌^◌, ◌<◌, ◌≤ℤ◌, Option, None, Some, option_map, inr, false, FitsSigned, List, [], ◌∷◌, ◌++◌, length, decimal, append-nil, refl, sym, ap, ◌∙◌, subst, arith}
 use Rattle.std.specs.Int.{w32}
@@ -32,7 +32,7 @@ use Rattle.mongo_establish.specs.declared.conversation.Conversation.TheVariants.
 use Rattle.mongo_establish.specs.declared.establisher.PendingConnection.{PendingConnection}
 use Rattle.mongo_establish.specs.declared.generation.PoolGeneration.TheVariants.{Normal}
 use Rattle.mongo_establish.specs.declared.login_state.Nonces.{Nonces}
-use Rattle.mongo_establish.specs.Asked.{Asked}
+use Rattle.mongo_establish.specs.Setup.{Setup}
 use Rattle.mongo_establish.specs.Client.{hello_document}
 use Rattle.mongo_establish.specs.Derivation.{scram_derivation, derivation_by, login_derivation, derivation_plan, LeadsToKey}
 use Rattle.mongo_establish.specs.Generation.{NamesService}
@@ -46,15 +46,15 @@ use Rattle.mongo_establish.specs.Spoken.{conversation_of, HasConversation}
 use Rattle.mongo_establish.proofs.HelloPlan.{greeting_ends}
 use Rattle.mongo_server.specs.Announced.{maximum_message_length}
 use Rattle.mongo_server.specs.Acceptance.{IsClientOf, IsAccepted, challenge_of}
-use Rattle.mongo_server.specs.Exchange.{Exchange, joined_of, first_of, close_of, server_final_of}
-use Rattle.mongo_generate.specs.Acceptance.{AreExchangeReplies}
+use Rattle.mongo_server.specs.Authentication.{Authentication, joined_of, first_of, close_of, server_final_of}
+use Rattle.mongo_generate.specs.Acceptance.{AreAuthenticationReplies}
 use Rattle.mongo_generate.specs.Login.{IsPossible, credential_by, key_of}
 use Rattle.mongo_generate.specs.Options.{handshaker_options}
 use Rattle.mongo_generate.specs.Replies.{speculative_elements, standalone_elements, final_elements, hello_reply, final_reply}
 use Rattle.mongo_command.specs.Literal.{document_of}
 use Rattle.mongo_generate.specs.Written.{CarriesPayloadLast}
 use Rattle.mongo_generate.proofs.ServerReplies.{conversation, standalone, speculative_says, hello_says, final_says}
-use Rattle.mongo_generate.proofs.Sizes.{asked_by_exchange, speculation_is, length_hello, framed_hello, close_document, length_close_document, close_carries, framed_close, command_frame_of, frame_within, body_within}
+use Rattle.mongo_generate.proofs.Sizes.{setup_by_client, speculation_is, length_hello, framed_hello, close_document, length_close_document, close_carries, framed_close, command_frame_of, frame_within, body_within}
 use Rattle.mongo_generate.proofs.Texts.{length_close}
 
 -- ---- by the version
@@ -69,29 +69,29 @@ has_scram Sha1 = refl
 has_scram Sha256 = refl
 
 -- which was answered in the hello, so that its mechanism isn't asked whether it takes the credential
-login_answered_in_hello : (version : ScramVersion) (asked : Asked) (credential : Credential) (greeting : Greeting) (given : List ℕ) (commands replies : List (List ℕ)) → speculative_reply asked greeting ≡ Some given → IsScramLogin (scram_handed_by version asked credential greeting) commands replies
-    → IsLoginBy (mechanism_of version) asked credential greeting commands replies
-login_answered_in_hello version asked credential greeting given commands replies is login = record {
+login_answered_in_hello : (version : ScramVersion) (setup : Setup) (credential : Credential) (greeting : Greeting) (given : List ℕ) (commands replies : List (List ℕ)) → speculative_reply setup greeting ≡ Some given → IsScramLogin (scram_handed_by version setup credential greeting) commands replies
+    → IsLoginBy (mechanism_of version) setup credential greeting commands replies
+login_answered_in_hello version setup credential greeting given commands replies is login = record {
   taken = subst (λ reply. TakesCredential reply (mechanism_of version) credential) (sym is) tt;
   conversation = Scram version;
   has_conversation = has_scram version;
   holds = login;
 }
 
-derivation_ends : (version : ScramVersion) (asked : Asked) (credential : Credential) (greeting : Greeting) (key : SaltedKey) → HasNone (InvalidRow (speculative_reply asked greeting) (mechanism_of version) credential) → PlanEnds (scram_derivation version asked credential greeting) [] (Some key)
-    → derivation_by (conversation_of (mechanism_of version)) (mechanism_of version) asked credential greeting [] (ends (Some key))
+derivation_ends : (version : ScramVersion) (setup : Setup) (credential : Credential) (greeting : Greeting) (key : SaltedKey) → HasNone (InvalidRow (speculative_reply setup greeting) (mechanism_of version) credential) → PlanEnds (scram_derivation version setup credential greeting) [] (Some key)
+    → derivation_by (conversation_of (mechanism_of version)) (mechanism_of version) setup credential greeting [] (ends (Some key))
 unfolding derivation_by
-derivation_ends Sha1 asked credential greeting key none is = inr (none, is.answer_is)
-derivation_ends Sha256 asked credential greeting key none is = inr (none, is.answer_is)
+derivation_ends Sha1 setup credential greeting key none is = inr (none, is.answer_is)
+derivation_ends Sha256 setup credential greeting key none is = inr (none, is.answer_is)
 
 never_invalid : (reply : Option (List ℕ)) (given : List ℕ) (mechanism : AuthMechanism) (credential : Credential) → reply ≡ Some given → HasNone (InvalidRow reply mechanism credential)
 never_invalid reply given mechanism credential is = subst (λ r. HasNone (InvalidRow r mechanism credential)) (sym is) (λ kind row. row)
 
--- ---- the login of an exchange
+-- ---- the login of an authentication
 
-module _ (pending : PendingConnection) (x : Exchange) (nonces : Nonces) (bytes : List ℕ) (possible : IsPossible x) (nonce_is : base64_of nonces.first ≡ x.nonce) (pool : pending.generation ≡ Normal 0) (heard : AreExchangeReplies x bytes) where
-  abbrev asked : Asked
-  asked = asked_by_exchange pending x nonces
+module _ (pending : PendingConnection) (x : Authentication) (nonces : Nonces) (bytes : List ℕ) (possible : IsPossible x) (nonce_is : base64_of nonces.first ≡ x.nonce) (pool : pending.generation ≡ Normal 0) (heard : AreAuthenticationReplies x bytes) where
+  abbrev setup : Setup
+  setup = setup_by_client pending x nonces
 
   abbrev credential : Credential
   credential = credential_by x.version x.username x.password
@@ -113,7 +113,7 @@ module _ (pending : PendingConnection) (x : Exchange) (nonces : Nonces) (bytes :
   greeting = record { document = hello_heard; description = description_of pending.address (standalone inner); speculative = Some inner; connection_id = None }
 
   abbrev handed : Handed
-  handed = scram_handed_by x.version asked credential greeting
+  handed = scram_handed_by x.version setup credential greeting
 
   abbrev close_heard : Challenge
   close_heard = challenge_of x conversation user
@@ -141,7 +141,7 @@ module _ (pending : PendingConnection) (x : Exchange) (nonces : Nonces) (bytes :
 
   -- ---- what the client is handed
 
-  replied : speculative_reply asked greeting ≡ Some inner
+  replied : speculative_reply setup greeting ≡ Some inner
   replied = ap (λ s. answer_to s (Some inner)) (speculation_is x.version x.username x.password nonces.first)
 
   abbrev speculated : Speculated
@@ -180,27 +180,27 @@ module _ (pending : PendingConnection) (x : Exchange) (nonces : Nonces) (bytes :
   unfolding handshaker_options
   said_is = ap (λ close. close_document close) accepted.closes
 
-  made : HasNone (HelloRow asked.credential)
+  made : HasNone (HelloRow setup.credential)
   made kind row = no_credential_row credential user is_user kind (row_by x.version credential kind row)
 
-  greets : Greets asked.pending.address hello_heard greeting
+  greets : Greets setup.pending.address hello_heard greeting
   greets = (refl, record { response = standalone inner; time = None; reads = hello_says (first_of x) short_first; taken = (tt, tt); description_is = refl; speculative_is = refl; connection_id_is = refl })
 
   pub first_frame : List ℕ
-  first_frame = written_frame (pos 0) (plain_message (hello_document asked))
+  first_frame = written_frame (pos 0) (plain_message (hello_document setup))
 
   pub last_frame : List ℕ
   last_frame = written_frame (next_id (pos 0)) (plain_message (close_document (close_of x)))
 
-  first_is_frame : IsCommandFrame first_frame (pos 0) (hello_document asked)
+  first_is_frame : IsCommandFrame first_frame (pos 0) (hello_document setup)
   unfolding first_frame
   first_is_frame =
       let fits : FitsSigned w32 (pos 0) = omega arith in
-      command_frame_of (pos 0) (hello_document asked) fits (framed_hello pending x nonces possible nonce_is) (omega (arith, length_hello pending x nonces possible nonce_is))
+      command_frame_of (pos 0) (hello_document setup) fits (framed_hello pending x nonces possible nonce_is) (omega (arith, length_hello pending x nonces possible nonce_is))
 
   first_within : pos (length first_frame) ≤ℤ first_maximum
   unfolding first_frame
-  first_within = frame_within (pos 0) (hello_document asked) first_maximum (omega (arith, ints, length_hello pending x nonces possible nonce_is))
+  first_within = frame_within (pos 0) (hello_document setup) first_maximum (omega (arith, ints, length_hello pending x nonces possible nonce_is))
 
   last_is_frame : IsCommandFrame last_frame (next_id (pos 0)) (close_document (close_of x))
   unfolding last_frame
@@ -215,7 +215,7 @@ module _ (pending : PendingConnection) (x : Exchange) (nonces : Nonces) (bytes :
   -- ---- the script
 
   abbrev script : Script
-  script = record { commands = hello_document asked ∷ close_document (close_of x) ∷ []; replies = hello_heard ∷ final_heard ∷ []; greeting = greeting }
+  script = record { commands = hello_document setup ∷ close_document (close_of x) ∷ []; replies = hello_heard ∷ final_heard ∷ []; greeting = greeting }
 
   is_login : IsScramLogin handed (close_document (close_of x) ∷ []) (final_heard ∷ [])
   is_login = record {
@@ -225,7 +225,7 @@ module _ (pending : PendingConnection) (x : Exchange) (nonces : Nonces) (bytes :
         (close_document (close_of x), final_heard, refl, refl, subst (λ command. IsConversation handed user inner command final_heard) said_is accepted.conversation);
   }
 
-  is_script : IsScript asked script
+  is_script : IsScript setup script
   is_script = record {
     made = made;
     later_commands = close_document (close_of x) ∷ [];
@@ -234,11 +234,11 @@ module _ (pending : PendingConnection) (x : Exchange) (nonces : Nonces) (bytes :
     later_replies = final_heard ∷ [];
     replies_are = refl;
     greets = greets;
-    login = (mechanism_of x.version, refl, login_answered_in_hello x.version asked credential greeting inner (close_document (close_of x) ∷ []) (final_heard ∷ []) replied is_login);
+    login = (mechanism_of x.version, refl, login_answered_in_hello x.version setup credential greeting inner (close_document (close_of x) ∷ []) (final_heard ∷ []) replied is_login);
     service = subst (λ generation. NamesService generation greeting.description) (sym pool) tt;
   }
 
-  pub has_script : HasScript asked bytes
+  pub has_script : HasScript setup bytes
   has_script =
       let r = heard.replies in
       let hello = r.hello_is in
@@ -263,7 +263,7 @@ module _ (pending : PendingConnection) (x : Exchange) (nonces : Nonces) (bytes :
     first = first_frame;
     second = last_frame;
     joined = is;
-    first_parts = record { request_id = pos 0; response_to = pos 0; flags = 0; body = hello_document asked; sequences = []; checksum = None };
+    first_parts = record { request_id = pos 0; response_to = pos 0; flags = 0; body = hello_document setup; sequences = []; checksum = None };
     first_is = first_is_frame.is_frame;
     first_within = first_within;
     second_parts = record { request_id = next_id (pos 0); response_to = pos 0; flags = 0; body = close_document (close_of x); sequences = []; checksum = None };
@@ -305,24 +305,24 @@ module _ (pending : PendingConnection) (x : Exchange) (nonces : Nonces) (bytes :
   opens : PlanEnds (opening handed) [] close_heard
   opens = opening_ends handed [] close_heard (subst (λ s. CanOpen s handed user) (sym speculates) tt) is_opened
 
-  derives : PlanEnds (scram_derivation x.version asked credential greeting) [] (Some (key_of x))
+  derives : PlanEnds (scram_derivation x.version setup credential greeting) [] (Some (key_of x))
   derives = ends_both (opening handed) (λ challenge. ending (Some (key_by handed challenge))) [] [] close_heard (Some (key_of x)) opens (record { follows = tt; answer_is = refl })
 
-  login_ends_with_key : PlanEnds (login_derivation asked greeting) [] (Some (key_of x))
+  login_ends_with_key : PlanEnds (login_derivation setup greeting) [] (Some (key_of x))
   unfolding login_derivation
   login_ends_with_key = record {
     follows = tt;
-    answer_is = (mechanism_of x.version, refl, derivation_ends x.version asked credential greeting (key_of x) (never_invalid (speculative_reply asked greeting) inner (mechanism_of x.version) credential replied) derives);
+    answer_is = (mechanism_of x.version, refl, derivation_ends x.version setup credential greeting (key_of x) (never_invalid (speculative_reply setup greeting) inner (mechanism_of x.version) credential replied) derives);
   }
 
-  sendable : IsSendable (hello_said asked)
-  sendable = framed_sendable (hello_said asked) first_frame (pos 0) first_is_frame first_within
+  sendable : IsSendable (hello_said setup)
+  sendable = framed_sendable (hello_said setup) first_frame (pos 0) first_is_frame first_within
 
-  ends_with_key : PlanEnds (derivation_plan asked) (exchanged (hello_said asked) hello_heard ∷ []) (Some (key_of x))
+  ends_with_key : PlanEnds (derivation_plan setup) (exchanged (hello_said setup) hello_heard ∷ []) (Some (key_of x))
   unfolding derivation_plan
-  ends_with_key = ends_both (hello_plan asked) (login_derivation asked) (exchanged (hello_said asked) hello_heard ∷ []) [] greeting (Some (key_of x)) (greeting_ends asked hello_heard greeting made sendable greets) login_ends_with_key
+  ends_with_key = ends_both (hello_plan setup) (login_derivation setup) (exchanged (hello_said setup) hello_heard ∷ []) [] greeting (Some (key_of x)) (greeting_ends setup hello_heard greeting made sendable greets) login_ends_with_key
 
-  pub leads_to_key : LeadsToKey asked bytes (Some (key_of x))
+  pub leads_to_key : LeadsToKey setup bytes (Some (key_of x))
   leads_to_key =
       let r = heard.replies in
       let hello = r.hello_is in
@@ -330,11 +330,11 @@ module _ (pending : PendingConnection) (x : Exchange) (nonces : Nonces) (bytes :
       let first_size : pos (length r.hello) ≤ℤ first_maximum = omega (arith, ints) in
       record {
         outcome = ends (Some (key_of x));
-        commands = hello_said asked ∷ [];
+        commands = hello_said setup ∷ [];
         taken = r.hello;
         unread = r.final;
         leads = record {
-          events = exchanged (hello_said asked) hello_heard ∷ [];
+          events = exchanged (hello_said setup) hello_heard ∷ [];
           follows = ends_with_key.follows;
           given_is = refl;
           heard = r.hello;

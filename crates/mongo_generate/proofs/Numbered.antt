@@ -1,4 +1,4 @@
--- The login of a number is the client's side of a possible exchange.
+-- The login of a number is the client's side of a possible authentication.
 use Rattle.std.proofs.Common.{◌≡◌, ◌⊎◌, ℕ, zero, suc, ◌+◌, ◌%◌, ◌<◌, ◌≤◌, Result, Ok, Err, IfOk, List, [], ◌∷◌, ◌++◌, length, replicate, codes, decimal, inl, inr, get_or, ap, ◌∙◌, subst, arith, Any}
 use Rattle.std.proofs.lemmas.Fmt.{decimal_digit}
 use Rattle.std.proofs.lemmas.List.{length-replicate}
@@ -13,8 +13,8 @@ use Rattle.mongo_scram.specs.Key.{IsControl, PasswordRow}
 use Rattle.mongo_scram.specs.Messages.{open_message}
 use Rattle.mongo_establish.specs.declared.login_state.Nonces.{Nonces}
 use Rattle.mongo_generate.specs.declared.user_login.UserLogin.{UserLogin}
-use Rattle.mongo_generate.specs.Generated.{version_at, exchange_at, nonces_at}
-use Rattle.mongo_generate.specs.Login.{credential_by, IsUserLogin, IsPossible, IsExchangeClient}
+use Rattle.mongo_generate.specs.Generated.{version_at, authentication_at, nonces_at}
+use Rattle.mongo_generate.specs.Login.{credential_by, IsUserLogin, IsPossible, IsAuthenticationClient}
 use Rattle.mongo_generate.proofs.Texts.{length_base64, alike_nonce}
 
 -- ---- its password
@@ -45,12 +45,12 @@ password_only_memory k version password kind v p (inl row) =
     absurd (usable (version_at k) (k % 3) (omega arith) kind (subst (λ w. PasswordRow w (codes "p" ++ decimal (k % 3)) kind) v (subst (λ s. PasswordRow version s kind) p row)))
 password_only_memory k version password kind v p (inr memory) = memory
 
--- ---- its exchange
+-- ---- its authentication
 
 one_digit : (d : ℕ) → d < 10 → length (decimal d) ≡ 1
 one_digit d few = ap length (decimal_digit d few)
 
-pub possible_at : (k : ℕ) → IsPossible (exchange_at k)
+pub possible_at : (k : ℕ) → IsPossible (authentication_at k)
 possible_at k = record {
   printable = alike_nonce 32 (k % 256) (omega arith);
   enough = omega arith;
@@ -73,7 +73,7 @@ nonces_as_at k nonces first second =
     λ i. record { first = first i; second = second_is i }
 
 pub login_at : {E : Type 0} (k : ℕ) (r : Result UserLogin E) (version : ScramVersion) (username password : List ℕ) (nonces : Nonces) → version ≡ version_at k → username ≡ codes "u" ++ decimal (k % 7) → password ≡ codes "p" ++ decimal (k % 3) → nonces ≡ nonces_at k
-    → IfOk r (IsUserLogin version username password nonces) → IfOk r (IsExchangeClient (exchange_at k))
+    → IfOk r (IsUserLogin version username password nonces) → IfOk r (IsAuthenticationClient (authentication_at k))
 login_at k (Ok login) version username password nonces v u p n is = record {
   possible = possible_at k;
   credential_is = is.credential_is ∙ (λ i. credential_by (v i) (u i) (p i));

@@ -1,4 +1,4 @@
--- What an establishment over the replies of an exchange comes to: the script, and nothing else.
+-- What an establishment over the replies of an authentication comes to: the script, and nothing else.
 use Rattle.std.proofs.Common.{◌≡◌, ◌⊎◌, ℕ, ℤ, pos, ◌∙◌, sym, subst, inl, inr, true, false, Option, None, Some, Result, Ok, Err, IfOk, IfErr, List, [], arith}
 use Rattle.std.specs.Io.KnownBytes.{Appends}
 use Rattle.mongo_wire.specs.Outside.{State, Rose}
@@ -15,20 +15,20 @@ use Rattle.mongo_establish.specs.declared.establisher.PendingConnection.{Pending
 use Rattle.mongo_establish.specs.declared.establisher.PooledConnection.{PooledConnection}
 use Rattle.mongo_establish.specs.declared.generation.PoolGeneration.TheVariants.{Normal}
 use Rattle.mongo_establish.specs.declared.options.HandshakerOptions.{HandshakerOptions}
-use Rattle.mongo_establish.specs.Asked.{Asked, asked_for}
+use Rattle.mongo_establish.specs.Setup.{Setup, setup_for}
 use Rattle.mongo_establish.specs.Derivation.{LeadsToKey}
 use Rattle.mongo_establish.specs.Established.{Established}
 use Rattle.mongo_establish.specs.KeyCosts.{TakesKey, AcceptedTakes, CostsOver}
 use Rattle.mongo_establish.specs.Script.{HasScript}
 use Rattle.mongo_establish.proofs.Counting.{CostsSome, taken_as_led}
 use Rattle.mongo_establish.proofs.Establishment.{one_script}
-use Rattle.mongo_server.specs.Exchange.{Exchange, close_of}
+use Rattle.mongo_server.specs.Authentication.{Authentication, close_of}
 use Rattle.mongo_generate.specs.declared.user_login.UserLogin.{UserLogin}
-use Rattle.mongo_generate.specs.Acceptance.{IsAcceptedAs, AreExchangeReplies}
-use Rattle.mongo_generate.specs.Login.{IsExchangeClient, KeepsEntries, key_of}
+use Rattle.mongo_generate.specs.Acceptance.{IsAcceptedAs, AreAuthenticationReplies}
+use Rattle.mongo_generate.specs.Login.{IsAuthenticationClient, KeepsEntries, key_of}
 use Rattle.mongo_generate.specs.Options.{handshaker_options}
 use Rattle.mongo_generate.specs.Written.{CarriesPayloadLast}
-use Rattle.mongo_generate.proofs.Sizes.{asked_by_exchange}
+use Rattle.mongo_generate.proofs.Sizes.{setup_by_client}
 use Rattle.mongo_generate.proofs.Meeting.{has_script, carries, sent_is, leads_to_key}
 
 -- the link doesn't fail
@@ -41,46 +41,46 @@ never_refused (Ok pooled) memory is = is
 never_refused (Err e) memory is = is memory
 
 -- what is written is the script's
-sent_by : (asked : Asked) (bytes : List ℕ) (old new : State) (after : ℤ) (first last : Ledgers) (pooled : PooledConnection) (h : HasScript asked bytes) → Established asked old new after first last pooled → old.left ≡ Some bytes → Appends old.written new.written h.sent
-sent_by asked bytes old new after first last pooled h e is =
+sent_by : (setup : Setup) (bytes : List ℕ) (old new : State) (after : ℤ) (first last : Ledgers) (pooled : PooledConnection) (h : HasScript setup bytes) → Established setup old new after first last pooled → old.left ≡ Some bytes → Appends old.written new.written h.sent
+sent_by setup bytes old new after first last pooled h e is =
     let s = e.scripted in
     let t = s.taken bytes is in
-    let k : HasScript asked bytes = record { script = e.script; is_script = s.is_script; sent = s.sent; is_written = s.is_written; taken = t.taken; rest = t.rest; joined = t.joined; is_taken = t.is_taken } in
-    subst (Appends old.written new.written) (one_script asked bytes k h).sent s.written
+    let k : HasScript setup bytes = record { script = e.script; is_script = s.is_script; sent = s.sent; is_written = s.is_written; taken = t.taken; rest = t.rest; joined = t.joined; is_taken = t.is_taken } in
+    subst (Appends old.written new.written) (one_script setup bytes k h).sent s.written
 
-module _ (pending : PendingConnection) (options : HandshakerOptions) (first_id : ℤ) (x : Exchange) (login : UserLogin) (bytes : List ℕ) (logs : IsExchangeClient x login) (heard : AreExchangeReplies x bytes) (pool : pending.generation ≡ Normal 0) (usual : options ≡ handshaker_options) (first : first_id ≡ pos 0) where
-  abbrev asked : Asked
-  asked = asked_for pending options (Some login.credential) login.inputs.nonces first_id
+module _ (pending : PendingConnection) (options : HandshakerOptions) (first_id : ℤ) (x : Authentication) (login : UserLogin) (bytes : List ℕ) (logs : IsAuthenticationClient x login) (heard : AreAuthenticationReplies x bytes) (pool : pending.generation ≡ Normal 0) (usual : options ≡ handshaker_options) (first : first_id ≡ pos 0) where
+  abbrev setup : Setup
+  setup = setup_for pending options (Some login.credential) login.inputs.nonces first_id
 
-  same : asked ≡ asked_by_exchange pending x login.inputs.nonces
-  same = λ i. asked_for pending (usual i) (Some (logs.credential_is i)) login.inputs.nonces (first i)
+  same : setup ≡ setup_by_client pending x login.inputs.nonces
+  same = λ i. setup_for pending (usual i) (Some (logs.credential_is i)) login.inputs.nonces (first i)
 
-  abbrev script_for : HasScript (asked_by_exchange pending x login.inputs.nonces) bytes
+  abbrev script_for : HasScript (setup_by_client pending x login.inputs.nonces) bytes
   script_for = has_script pending x login.inputs.nonces bytes logs.possible logs.nonce_is pool heard
 
   -- there is a script, so only memory can be wanting
-  pub has_its_script : HasScript asked bytes
+  pub has_its_script : HasScript setup bytes
   has_its_script = subst (λ a. HasScript a bytes) (sym same) script_for
 
   -- what was written carries the client's last message
-  pub writes_close : (old new : State) (after : ℤ) (earlier later : Ledgers) (pooled : PooledConnection) (written : List ℕ) → Established asked old new after earlier later pooled → old.left ≡ Some bytes → old.written ≡ Some [] → new.written ≡ Some written → CarriesPayloadLast (close_of x) written
+  pub writes_close : (old new : State) (after : ℤ) (earlier later : Ledgers) (pooled : PooledConnection) (written : List ℕ) → Established setup old new after earlier later pooled → old.left ≡ Some bytes → old.written ≡ Some [] → new.written ≡ Some written → CarriesPayloadLast (close_of x) written
   writes_close old new after earlier later pooled written e is nothing all =
       let there = subst (λ a. Established a old new after earlier later pooled) same e in
-      let sent = sent_by (asked_by_exchange pending x login.inputs.nonces) bytes old new after earlier later pooled script_for there is in
+      let sent = sent_by (setup_by_client pending x login.inputs.nonces) bytes old new after earlier later pooled script_for there is in
       let grown : Appends (Some []) (Some written) script_for.sent = subst (λ w. Appends w (Some written) script_for.sent) nothing (subst (λ w. Appends old.written w script_for.sent) all sent) in
       carries pending x login.inputs.nonces bytes logs.possible logs.nonce_is pool heard written (grown ∙ sent_is pending x login.inputs.nonces bytes logs.possible logs.nonce_is pool heard)
 
-  pub accepted_writes : (ended : Result PooledConnection EstablishError) (old new : State) (after : ℤ) (earlier later : Ledgers) (written : List ℕ) → IsAcceptedAs ended true → IfOk ended (Established asked old new after earlier later) → old.left ≡ Some bytes → old.written ≡ Some [] → new.written ≡ Some written → CarriesPayloadLast (close_of x) written
+  pub accepted_writes : (ended : Result PooledConnection EstablishError) (old new : State) (after : ℤ) (earlier later : Ledgers) (written : List ℕ) → IsAcceptedAs ended true → IfOk ended (Established setup old new after earlier later) → old.left ≡ Some bytes → old.written ≡ Some [] → new.written ≡ Some written → CarriesPayloadLast (close_of x) written
   accepted_writes (Ok pooled) old new after earlier later written is e told nothing all = writes_close old new after earlier later pooled written e told nothing all
   accepted_writes (Err e) old new after earlier later written is none told nothing all = absurd is
 
   -- and its key was taken
-  pub takes_key : (before after : Ledgers) (pooled : PooledConnection) → CostsOver (Ok pooled) asked bytes before after → TakesKey (key_of x) before after
+  pub takes_key : (before after : Ledgers) (pooled : PooledConnection) → CostsOver (Ok pooled) setup bytes before after → TakesKey (key_of x) before after
   takes_key before after pooled costs =
-      taken_as_led asked bytes (λ key. AcceptedTakes key before after) (Some (key_of x)) costs
+      taken_as_led setup bytes (λ key. AcceptedTakes key before after) (Some (key_of x)) costs
       (subst (λ a. LeadsToKey a bytes (Some (key_of x))) (sym same) (leads_to_key pending x login.inputs.nonces bytes logs.possible logs.nonce_is pool heard))
 
-  pub accepted_takes : (ended : Result PooledConnection EstablishError) (before after : Ledgers) → IsAcceptedAs ended true → CostsOver ended asked bytes before after → TakesKey (key_of x) before after
+  pub accepted_takes : (ended : Result PooledConnection EstablishError) (before after : Ledgers) → IsAcceptedAs ended true → CostsOver ended setup bytes before after → TakesKey (key_of x) before after
   accepted_takes (Ok pooled) before after is costs = takes_key before after pooled costs
   accepted_takes (Err e) before after is costs = absurd is
 
@@ -97,18 +97,18 @@ not_both : (kind : ErrorKind) → kind ≡ OutOfMemory → kind ≡ Incompatible
 not_both kind memory incompatible = cc
 
 -- a refusal leaves the entries; one that comes after the login had been accepted has its key put in
-refused_keeps : (e : EstablishError) (request : Asked) (bytes : List ℕ) (first last : Ledgers) → CostsOver {T = PooledConnection} (Err e) request bytes first last → e.cause.kind ≡ IncompatibleServer → SameEntries first last ⊎ AddsOne first last
+refused_keeps : (e : EstablishError) (request : Setup) (bytes : List ℕ) (first last : Ledgers) → CostsOver {T = PooledConnection} (Err e) request bytes first last → e.cause.kind ≡ IncompatibleServer → SameEntries first last ⊎ AddsOne first last
 refused_keeps e request bytes first last costs incompatible =
     elim costs [
       | inl memory ↦ absurd (not_both e.cause.kind memory incompatible)
       | inr other ↦ elim other [ inl unnamed ↦ accepted_keeps unnamed.led.key first last unnamed.led.taken | inr refused ↦ absurd (refused.other incompatible) ]
     ]
 
-entries_keep : (ended : Result PooledConnection EstablishError) (request : Asked) (bytes : List ℕ) (first last : Ledgers) → CostsOver ended request bytes first last → IfErr ended (λ e. (e.cause.kind ≡ IncompatibleServer) ⊎ SameEntries first last) → SameEntries first last ⊎ AddsOne first last
+entries_keep : (ended : Result PooledConnection EstablishError) (request : Setup) (bytes : List ℕ) (first last : Ledgers) → CostsOver ended request bytes first last → IfErr ended (λ e. (e.cause.kind ≡ IncompatibleServer) ⊎ SameEntries first last) → SameEntries first last ⊎ AddsOne first last
 entries_keep (Ok pooled) request bytes first last costs entries = accepted_keeps costs.key first last costs.taken
 entries_keep (Err e) request bytes first last costs entries = elim entries [ inl incompatible ↦ refused_keeps e request bytes first last costs incompatible | inr same ↦ inl same ]
 
-pub keeps_entries : (ended : Result PooledConnection EstablishError) (request : Asked) (bytes : List ℕ) (first last : Ledgers) → CostsSome first last → CostsOver ended request bytes first last
+pub keeps_entries : (ended : Result PooledConnection EstablishError) (request : Setup) (bytes : List ℕ) (first last : Ledgers) → CostsSome first last → CostsOver ended request bytes first last
     → IfErr ended (λ e. (e.cause.kind ≡ IncompatibleServer) ⊎ SameEntries first last) → KeepsEntries first last
 keeps_entries ended request bytes first last some over entries = record { rounds = some.rounds; counts = some.counts; entries = entries_keep ended request bytes first last over entries }
 

@@ -1,4 +1,4 @@
--- The messages of a possible exchange fit into replies, so that only memory can be wanting where these are made.
+-- The messages of a possible authentication fit into replies, so that only memory can be wanting where these are made.
 use Rattle.std.proofs.Common.{◌≡◌, ℕ, ℤ, ◌+◌, ◌^◌, ◌<◌, ◌≤◌, None, Result, Ok, Err, IfErr, List, [], ◌∷◌, ◌++◌, length, length-append, map, decimal, refl, sym, subst, arith}
 use Rattle.std.specs.List.{AllByRecursion, flat_map}
 use Rattle.std.proofs.lemmas.Fmt.{length-decimal-le}
@@ -20,14 +20,14 @@ use Rattle.mongo_scram.specs.Version.{digest_of}
 use Rattle.mongo_scram.specs.declared.scram_version.ScramVersion.{ScramVersion}
 use Rattle.mongo_mac.specs.Hmac.{hmac_of}
 use Rattle.mongo_server.specs.Announced.{maximum_message_length}
-use Rattle.mongo_server.specs.Exchange.{Exchange, joined_of, salted_between, auth_message_between, first_of, server_final_of}
+use Rattle.mongo_server.specs.Authentication.{Authentication, joined_of, salted_between, auth_message_between, first_of, server_final_of}
 use Rattle.mongo_generate.specs.Login.{IsPossible}
 use Rattle.mongo_generate.specs.Replies.{speculative_elements, standalone_elements, final_elements, hello_reply, final_reply}
 use Rattle.mongo_generate.proofs.Texts.{length_base64, length_digest}
 
 -- ---- the server's messages
 
-pub short_first : (x : Exchange) → IsPossible x → length (first_of x) < 2 ^ 24
+pub short_first : (x : Authentication) → IsPossible x → length (first_of x) < 2 ^ 24
 short_first x possible =
     let within = possible.within in
     let short = possible.short in
@@ -45,7 +45,7 @@ length_verifier : (version : ScramVersion) (salted auth_message : List ℕ) → 
 unfolding verifier hmac_of
 length_verifier version salted auth_message = length_digest version _
 
-pub short_final : (x : Exchange) → length (server_final_of x) < 2 ^ 24
+pub short_final : (x : Authentication) → length (server_final_of x) < 2 ^ 24
 short_final x =
     let owed = verifier (digest_of x.version) (salted_between x) (auth_message_between x) in
     omega (arith, length_base64 owed, length_verifier x.version (salted_between x) (auth_message_between x))

@@ -33,11 +33,11 @@ use Rattle.mongo_meta.specs.Options.{metadata_of}
 use Rattle.mongo_meta.specs.Providers.{runtime_environment_in}
 use Rattle.mongo_establish.specs.declared.establisher.PendingConnection.{PendingConnection}
 use Rattle.mongo_establish.specs.declared.login_state.Nonces.{Nonces}
-use Rattle.mongo_establish.specs.Asked.{Asked, asked_for}
+use Rattle.mongo_establish.specs.Setup.{Setup, setup_for}
 use Rattle.mongo_establish.specs.Client.{metadata_key, with_document, common_hello, speculating, introducing, login_hello, hello_document}
 use Rattle.mongo_establish.specs.Speculation.{scram_speculation, speculation}
 use Rattle.mongo_server.specs.Announced.{conversation_id}
-use Rattle.mongo_server.specs.Exchange.{Exchange}
+use Rattle.mongo_server.specs.Authentication.{Authentication}
 use Rattle.mongo_generate.specs.Login.{IsPossible, credential_by}
 use Rattle.mongo_generate.specs.Options.{handshaker_options}
 use Rattle.mongo_generate.specs.Written.{CarriesPayload}
@@ -45,9 +45,9 @@ use Rattle.mongo_generate.proofs.Documents.{cstring, ascii_text, text_is_element
 use Rattle.mongo_generate.proofs.ServerReplies.{conversation, one_fits, conversation_is_cstring, payload_is_cstring}
 use Rattle.mongo_generate.proofs.Texts.{length_open}
 
--- what the client of an exchange asks for
-abbrev pub asked_by_exchange : PendingConnection → Exchange → Nonces → Asked
-asked_by_exchange pending x nonces = asked_for pending handshaker_options (Some (credential_by x.version x.username x.password)) nonces (pos 0)
+-- what the client of an authentication asks for
+abbrev pub setup_by_client : PendingConnection → Authentication → Nonces → Setup
+setup_by_client pending x nonces = setup_for pending handshaker_options (Some (credential_by x.version x.username x.password)) nonces (pos 0)
 
 -- ---- a command's document
 
@@ -104,7 +104,7 @@ length_speculating login document d is = subst (λ l. length (speculating l d) �
 length_introducing : (d : List ℕ) → length (introducing handshaker_options.metadata d) ≤ length d + 530
 length_introducing d = omega (arith, length_with metadata_key (client_of handshaker_options.metadata (length d)) d, short_client (length d))
 
-pub length_hello : (pending : PendingConnection) (x : Exchange) (nonces : Nonces) → IsPossible x → base64_of nonces.first ≡ x.nonce → length (hello_document (asked_by_exchange pending x nonces)) ≤ 2 ^ 23
+pub length_hello : (pending : PendingConnection) (x : Authentication) (nonces : Nonces) → IsPossible x → base64_of nonces.first ≡ x.nonce → length (hello_document (setup_by_client pending x nonces)) ≤ 2 ^ 23
 length_hello pending x nonces possible nonce =
     let credential = credential_by x.version x.username x.password in
     let login = speculation (Some credential) nonces.first in
@@ -113,7 +113,7 @@ length_hello pending x nonces possible nonce =
     let short = possible.short in
     omega (
       arith,
-      length_command (login_hello (asked_by_exchange pending x nonces)),
+      length_command (login_hello (setup_by_client pending x nonces)),
       length_introducing (speculating login common),
       length_speculating login document common (speculation_is x.version x.username x.password nonces.first),
       length_arguments,
@@ -123,8 +123,8 @@ length_hello pending x nonces possible nonce =
       ap length nonce,
     )
 
-pub framed_hello : (pending : PendingConnection) (x : Exchange) (nonces : Nonces) → IsPossible x → base64_of nonces.first ≡ x.nonce → IsFramed (hello_document (asked_by_exchange pending x nonces))
-framed_hello pending x nonces possible nonce = framed_command (login_hello (asked_by_exchange pending x nonces)) (let size = length_hello pending x nonces possible nonce in omega arith)
+pub framed_hello : (pending : PendingConnection) (x : Authentication) (nonces : Nonces) → IsPossible x → base64_of nonces.first ≡ x.nonce → IsFramed (hello_document (setup_by_client pending x nonces))
+framed_hello pending x nonces possible nonce = framed_command (login_hello (setup_by_client pending x nonces)) (let size = length_hello pending x nonces possible nonce in omega arith)
 
 -- ---- the last command
 

@@ -10,7 +10,7 @@ use Rattle.mongo_scram.specs.Cache.{entries_of, rounds_of}
 use Rattle.mongo_scram.specs.Costs.{HasEntry, Ledgers, ledgers, Counts, Derives}
 use Rattle.mongo_establish.specs.KeyCosts.{TakesKey}
 use Rattle.mongo_establish.proofs.Counting.{taken_keys}
-use Rattle.mongo_generate.specs.Generated.{exchange_at, last_messages, all_messages, key_count, IsGenerated}
+use Rattle.mongo_generate.specs.Generated.{authentication_at, last_messages, all_messages, key_count, IsGenerated}
 use Rattle.mongo_generate.proofs.Keys.{key_at, same_rest, same_again}
 
 -- ---- which keys have an entry
@@ -115,11 +115,11 @@ so_far_none start accepted hasher now none hashed entries rounds steps = record 
   steps_are = omega arith;
 }
 
-said_more : (k : ℕ) → all_messages k ++ last_messages (exchange_at k) ≡ all_messages (k + 1)
+said_more : (k : ℕ) → all_messages k ++ last_messages (authentication_at k) ≡ all_messages (k + 1)
 unfolding all_messages
 said_more k = ap all_messages (sym (add-one k))
 
-pub so_far_more : (start k accepted more : ℕ) (hasher next : Sha256) (now later : Ledgers) → SoFar start k accepted hasher now → TakesKey (key_at k) (ledgers (now.steps + 4096) now.cache) later → more ≡ accepted + 1 → Holds256 next (all_messages k ++ last_messages (exchange_at k)) → k < 2 ^ 32
+pub so_far_more : (start k accepted more : ℕ) (hasher next : Sha256) (now later : Ledgers) → SoFar start k accepted hasher now → TakesKey (key_at k) (ledgers (now.steps + 4096) now.cache) later → more ≡ accepted + 1 → Holds256 next (all_messages k ++ last_messages (authentication_at k)) → k < 2 ^ 32
     → SoFar start (k + 1) more next later
 so_far_more start k accepted more hasher next now later s takes counted hashed few =
     let r = rounds_more (ledgers (now.steps + 4096) now.cache) later k takes.derived s.held in

@@ -17,7 +17,7 @@ use Rattle.mongo_scram.specs.Messages.{bare_message, open_message, no_proof, cli
 use Rattle.mongo_scram.specs.UserName.{escaped_byte, escaped, comma_code, equals_code}
 use Rattle.mongo_scram.specs.Version.{digest_of}
 use Rattle.mongo_server.specs.ClientMessages.{IsNonceByte, IsNonce}
-use Rattle.mongo_server.specs.Exchange.{Exchange, salted_between, auth_message_between, close_of}
+use Rattle.mongo_server.specs.Authentication.{Authentication, salted_between, auth_message_between, close_of}
 
 -- ---- base64
 
@@ -111,5 +111,5 @@ length_closing version salted auth_message nonce =
     let owed = proof (digest_of version) salted auth_message in
     omega (arith, length-append nonce (after_comma proof_attribute ++ base64_of owed), length_base64 owed, length_proof version salted auth_message)
 
-pub length_close : (x : Exchange) → length (close_of x) ≤ length x.nonce + length x.suffix + 100
+pub length_close : (x : Authentication) → length (close_of x) ≤ length x.nonce + length x.suffix + 100
 length_close x = omega (arith, length_closing x.version (salted_between x) (auth_message_between x) (x.nonce ++ x.suffix), length-append x.nonce x.suffix)

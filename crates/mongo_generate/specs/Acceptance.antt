@@ -5,13 +5,13 @@ use Rattle.mongo_establish.specs.declared.establisher.EstablishError.{EstablishE
 use Rattle.mongo_establish.specs.declared.establisher.PooledConnection.{PooledConnection}
 use Rattle.mongo_server.specs.declared.server_core.ServerCore.{ServerCore}
 use Rattle.mongo_server.specs.Acceptance.{Accepts}
-use Rattle.mongo_server.specs.Exchange.{Exchange, first_of, close_of, server_final_of, IsReadAs}
+use Rattle.mongo_server.specs.Authentication.{Authentication, first_of, close_of, server_final_of, IsReadAs}
 use Rattle.mongo_server.specs.Server.{IsOwed, IsClientFinalTaken}
 use Rattle.mongo_generate.specs.declared.acceptance.Acceptance.{Acceptance}
 use Rattle.mongo_generate.specs.Replies.{AreReplies}
 
--- the last messages of an exchange
-abbrev pub acceptance_of : Exchange → Acceptance
+-- the last messages of an authentication
+abbrev pub acceptance_of : Authentication → Acceptance
 acceptance_of x = record { client_final = close_of x; server_final = server_final_of x }
 
 -- the server has taken the client's last message, and owes its own
@@ -24,8 +24,8 @@ IsAcceptedAs (Ok pooled) true = ⊤
 IsAcceptedAs (Err refusal) false = refusal.cause.kind ≢ OutOfMemory
 IsAcceptedAs ended accepted = ⊥
 
--- the bytes are the replies of the exchange, which its client accepts
-pub record AreExchangeReplies (x : Exchange) (bytes : List ℕ) : Type 0 where
+-- the bytes are the replies of the authentication, which its client accepts
+pub record AreAuthenticationReplies (x : Authentication) (bytes : List ℕ) : Type 0 where
   pub replies : AreReplies (first_of x) (server_final_of x) bytes
   pub reads : IsReadAs (first_of x) x
   pub accepts : Accepts x (server_final_of x)

@@ -5,7 +5,7 @@ use Rattle.mongo_scram.specs.declared.scram_version.ScramVersion.{ScramVersion}
 use Rattle.mongo_scram.specs.declared.scram_version.ScramVersion.TheVariants.{Sha1, Sha256}
 use Rattle.mongo_scram.specs.Base64.{base64_of}
 use Rattle.mongo_establish.specs.declared.login_state.Nonces.{Nonces}
-use Rattle.mongo_server.specs.Exchange.{Exchange, close_of, server_final_of}
+use Rattle.mongo_server.specs.Authentication.{Authentication, close_of, server_final_of}
 use Rattle.mongo_generate.specs.declared.logins.Generated.{Generated}
 
 -- ---- the login of a number
@@ -13,8 +13,8 @@ use Rattle.mongo_generate.specs.declared.logins.Generated.{Generated}
 abbrev pub version_at : ℕ → ScramVersion
 version_at k = if k % 2 == 0 then Sha1 else Sha256
 
-abbrev pub exchange_at : ℕ → Exchange
-exchange_at k = record {
+abbrev pub authentication_at : ℕ → Authentication
+authentication_at k = record {
   version = version_at k;
   username = codes "u" ++ decimal (k % 7);
   password = codes "p" ++ decimal (k % 3);
@@ -31,13 +31,13 @@ nonces_at k = record { first = replicate 32 (k % 256); second = replicate 32 ((k
 -- ---- logins one after another
 
 -- the client's last message and then the server's
-abbrev pub last_messages : Exchange → List ℕ
+abbrev pub last_messages : Authentication → List ℕ
 last_messages x = close_of x ++ server_final_of x
 
 -- those of the logins of the numbers below this one, joined
 unfoldable pub all_messages : ℕ → List ℕ
 all_messages zero = []
-all_messages (suc k) = all_messages k ++ last_messages (exchange_at k)
+all_messages (suc k) = all_messages k ++ last_messages (authentication_at k)
 
 -- how many different keys the logins have: version, user, password and salt come again after 2 * 7 * 3 * 5 of them
 abbrev pub key_count : ℕ

@@ -15,7 +15,7 @@ use Rattle.mongo_scram.specs.Validity.{least_count}
 use Rattle.mongo_establish.specs.declared.login_state.Nonces.{Nonces}
 use Rattle.mongo_establish.specs.Options.{default_max_iterations}
 use Rattle.mongo_server.specs.ClientMessages.{IsNonce}
-use Rattle.mongo_server.specs.Exchange.{Exchange, open_of}
+use Rattle.mongo_server.specs.Authentication.{Authentication, open_of}
 use Rattle.mongo_generate.specs.declared.user_login.UserLogin.{UserLogin}
 
 -- the credential of a user of the database `admin` whose mechanism is given
@@ -28,24 +28,24 @@ pub record IsUserLogin (version : ScramVersion) (username password : List ℕ) (
   pub nonces_are : login.inputs.nonces ≡ nonces
   pub first_is : login.client_first ≡ open_message username (base64_of nonces.first)
 
--- an exchange that both sides go through with: a nonce that is printable, as many iterations as the client takes, a password
+-- an authentication that both sides go through with: a nonce that is printable, as many iterations as the client takes, a password
 -- that a key is derived from, and texts of a mebibyte at most together
-pub record IsPossible (x : Exchange) : Type 0 where
+pub record IsPossible (x : Authentication) : Type 0 where
   pub printable : IsNonce x.nonce
   pub enough : least_count ≤ x.count
   pub within : x.count ≤ default_max_iterations
   pub usable : (kind : ErrorKind) → PasswordRow x.version x.password kind → ⊥
   pub short : length x.username + length x.salt + length x.nonce + length x.suffix ≤ 2 ^ 20
 
--- the login is the client's side of a possible exchange
-pub record IsExchangeClient (x : Exchange) (login : UserLogin) : Type 0 where
+-- the login is the client's side of a possible authentication
+pub record IsAuthenticationClient (x : Authentication) (login : UserLogin) : Type 0 where
   pub possible : IsPossible x
   pub credential_is : login.credential ≡ credential_by x.version x.username x.password
   pub nonce_is : base64_of login.inputs.nonces.first ≡ x.nonce
   pub first_is : login.client_first ≡ open_of x
 
 -- the key that it derives from
-abbrev pub key_of : Exchange → SaltedKey
+abbrev pub key_of : Authentication → SaltedKey
 key_of x = record { version = x.version; username = x.username; password = x.password; salt = x.salt; count = x.count }
 
 -- ---- what a login takes, however it ends

@@ -8,7 +8,7 @@
 //! 3. [`generate`] makes so many logins one after another, with one cache of salted passwords, and answers how many both
 //!    sides accepted, the rounds of Hi that were derived, and one digest of all last messages.
 //!
-//! Proved: where a login and a server are of one exchange, both sides accept, or memory runs out; `generate` answers the
+//! Proved: where a login and a server are of one authentication, both sides accept, or memory runs out; `generate` answers the
 //! numbers and the digest that `specs/Generated.antt` gives. Want of memory is the only refusal of each call.
 #![tactic(auto)]
 

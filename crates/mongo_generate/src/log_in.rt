@@ -2,10 +2,10 @@
 ghost use Rattle.std.specs.Prelude.{◌≡◌, Some, IfSome, IfOk, OnOk, MatchOption};
 ghost use Rattle.mongo_wire.specs.declared.error.ErrorKind.TheVariants.{OutOfMemory};
 ghost use Rattle.mongo_establish.specs.declared.generation.PoolGeneration.TheVariants.{Normal};
-ghost use Rattle.mongo_server.specs.Exchange.{Exchange, close_of};
+ghost use Rattle.mongo_server.specs.Authentication.{Authentication, close_of};
 ghost use Rattle.mongo_server.specs.Server.{Serves, HasBegun};
-ghost use Rattle.mongo_generate.specs.Acceptance.{acceptance_of, IsAcceptedAs, IsTakenBy, AreExchangeReplies};
-ghost use Rattle.mongo_generate.specs.Login.{IsExchangeClient};
+ghost use Rattle.mongo_generate.specs.Acceptance.{acceptance_of, IsAcceptedAs, IsTakenBy, AreAuthenticationReplies};
+ghost use Rattle.mongo_generate.specs.Login.{IsAuthenticationClient};
 
 use crate::replies::replies_of;
 use crate::written::client_final;
@@ -24,10 +24,10 @@ impl Client {
     ghost use Rattle.std.specs.Prelude.{◌≡◌, ◌≤◌, Some, IfSome, IfOk, OnOk, MatchOption};
     ghost use Rattle.mongo_scram.specs.Costs.{ledgers};
     ghost use Rattle.mongo_establish.specs.KeyCosts.{TakesKey};
-    ghost use Rattle.mongo_server.specs.Exchange.{Exchange, close_of};
+    ghost use Rattle.mongo_server.specs.Authentication.{Authentication, close_of};
     ghost use Rattle.mongo_server.specs.Server.{Serves};
-    ghost use Rattle.mongo_generate.specs.Acceptance.{acceptance_of, IsTakenBy, AreExchangeReplies};
-    ghost use Rattle.mongo_generate.specs.Login.{IsExchangeClient, KeepsEntries, key_of};
+    ghost use Rattle.mongo_generate.specs.Acceptance.{acceptance_of, IsTakenBy, AreAuthenticationReplies};
+    ghost use Rattle.mongo_generate.specs.Login.{IsAuthenticationClient, KeepsEntries, key_of};
     ghost use Rattle.mongo_generate.specs.Written.{CarriesPayloadLast};
 
     /// Establishes a connection over a link in memory whose replies carry the server's messages: hello with the login that
@@ -35,7 +35,7 @@ impl Client {
     /// where either side refuses, or where a message of the server doesn't fit into a reply of 48000000 bytes. The ids of the
     /// commands begin at 0.
     ///
-    /// A server of the login's exchange, and its client, accept: the answer is their last messages. A login that is refused leaves
+    /// A server of the login's authentication, and its client, accept: the answer is their last messages. A login that is refused leaves
     /// the cache its entries, and adds one at most.
     pub fn log_in<G: Ledger>(
         &self,
@@ -45,15 +45,15 @@ impl Client {
         state: &mut LoginState,
         steps: &mut Steps<G>,
     ) -> Result<Option<Acceptance>, AllocError>
-        // Where both are of one exchange, both accept.
-        ensures accepted { (x : Exchange) → IsExchangeClient x login.now → Serves server.old x → IfOk result (λ met. met ≡ Some (acceptance_of x)) }
+        // Where both are of one authentication, both accept.
+        ensures accepted { (x : Authentication) → IsAuthenticationClient x login.now → Serves server.old x → IfOk result (λ met. met ≡ Some (acceptance_of x)) }
         // Its key is derived where it has no entry, and has one then.
-        ensures takes { (x : Exchange) → IsExchangeClient x login.now → Serves server.old x → OnOk result (TakesKey (key_of x) (ledgers steps.old state.old.salted) (ledgers steps.new state.new.salted)) }
+        ensures takes { (x : Authentication) → IsAuthenticationClient x login.now → Serves server.old x → OnOk result (TakesKey (key_of x) (ledgers steps.old state.old.salted) (ledgers steps.new state.new.salted)) }
         // However it ends, and whichever user the server has, no entry is lost, and one key's is added at most.
         ensures keeps { KeepsEntries (ledgers steps.old state.old.salted) (ledgers steps.new state.new.salted) }
         // Whatever the server, what is answered it has taken, and owes.
         ensures taken { IfOk result (λ met. IfSome met (IsTakenBy server.new)) }
-        ensures serves { (x : Exchange) → Serves server.old x → Serves server.new x }
+        ensures serves { (x : Authentication) → Serves server.old x → Serves server.new x }
         ensures steps { steps.old ≤ steps.new }
     {
         let Some(replies) = heard(alloc, login, server)? else {
@@ -74,8 +74,8 @@ impl Client {
         state: &mut LoginState,
         steps: &mut Steps<G>,
     ) -> Result<Option<Bytes>, AllocError>
-        ensures closes { (x : Exchange) → IsExchangeClient x login.now → AreExchangeReplies x replies → IfOk result (λ client_final. client_final ≡ Some (close_of x)) }
-        ensures takes { (x : Exchange) → IsExchangeClient x login.now → AreExchangeReplies x replies → OnOk result (TakesKey (key_of x) (ledgers steps.old state.old.salted) (ledgers steps.new state.new.salted)) }
+        ensures closes { (x : Authentication) → IsAuthenticationClient x login.now → AreAuthenticationReplies x replies → IfOk result (λ client_final. client_final ≡ Some (close_of x)) }
+        ensures takes { (x : Authentication) → IsAuthenticationClient x login.now → AreAuthenticationReplies x replies → OnOk result (TakesKey (key_of x) (ledgers steps.old state.old.salted) (ledgers steps.new state.new.salted)) }
         ensures keeps { KeepsEntries (ledgers steps.old state.old.salted) (ledgers steps.new state.new.salted) }
         ensures steps { steps.old ≤ steps.new }
     {
@@ -94,8 +94,8 @@ impl Client {
         state: &mut LoginState,
         steps: &mut Steps<G>,
     ) -> Result<Option<Bytes>, AllocError>
-        ensures written { (x : Exchange) → IsExchangeClient x login.now → AreExchangeReplies x replies → IfOk result (λ written. MatchOption written ⊥ (CarriesPayloadLast (close_of x))) }
-        ensures takes { (x : Exchange) → IsExchangeClient x login.now → AreExchangeReplies x replies → OnOk result (TakesKey (key_of x) (ledgers steps.old state.old.salted) (ledgers steps.new state.new.salted)) }
+        ensures written { (x : Authentication) → IsAuthenticationClient x login.now → AreAuthenticationReplies x replies → IfOk result (λ written. MatchOption written ⊥ (CarriesPayloadLast (close_of x))) }
+        ensures takes { (x : Authentication) → IsAuthenticationClient x login.now → AreAuthenticationReplies x replies → OnOk result (TakesKey (key_of x) (ledgers steps.old state.old.salted) (ledgers steps.new state.new.salted)) }
         ensures keeps { KeepsEntries (ledgers steps.old state.old.salted) (ledgers steps.new state.new.salted) }
         ensures steps { steps.old ≤ steps.new }
     {
@@ -124,7 +124,7 @@ fn acceptance(
     server: &mut ServerCore,
     client_final: Bytes,
 ) -> Result<Option<Acceptance>, AllocError>
-    ensures accepted { (x : Exchange) → HasBegun server.old x → client_final ≡ close_of x → IfOk result (λ met. met ≡ Some (acceptance_of x)) }
+    ensures accepted { (x : Authentication) → HasBegun server.old x → client_final ≡ close_of x → IfOk result (λ met. met ≡ Some (acceptance_of x)) }
     ensures taken { IfOk result (λ met. IfSome met (IsTakenBy server.new)) }
     ensures unchanged { server.new ≡ server.old }
 {
@@ -165,9 +165,9 @@ fn heard(
     login: &UserLogin,
     server: &mut ServerCore,
 ) -> Result<Option<Bytes>, AllocError>
-    ensures heard { (x : Exchange) → IsExchangeClient x login.now → Serves server.old x → IfOk result (λ replies. MatchOption replies ⊥ (AreExchangeReplies x)) }
-    ensures begun { (x : Exchange) → IsExchangeClient x login.now → Serves server.old x → OnOk result (HasBegun server.new x) }
-    ensures serves { (x : Exchange) → Serves server.old x → Serves server.new x }
+    ensures heard { (x : Authentication) → IsAuthenticationClient x login.now → Serves server.old x → IfOk result (λ replies. MatchOption replies ⊥ (AreAuthenticationReplies x)) }
+    ensures begun { (x : Authentication) → IsAuthenticationClient x login.now → Serves server.old x → OnOk result (HasBegun server.new x) }
+    ensures serves { (x : Authentication) → Serves server.old x → Serves server.new x }
 {
     let first = match server.first(alloc, login.client_first.as_bytes()) {
         Ok(first) => first,

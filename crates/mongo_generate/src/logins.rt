@@ -2,9 +2,9 @@ ghost use Rattle.std.specs.Prelude.{◌≡◌, ◌+◌, ◌-◌, ◌^◌, ◌<�
 ghost use Rattle.sha2.specs.Hashers.{Holds256};
 ghost use Rattle.mongo_scram.specs.Costs.{ledgers};
 ghost use Rattle.mongo_establish.specs.KeyCosts.{TakesKey};
-ghost use Rattle.mongo_server.specs.Exchange.{Exchange};
+ghost use Rattle.mongo_server.specs.Authentication.{Authentication};
 ghost use Rattle.mongo_generate.specs.Acceptance.{acceptance_of};
-ghost use Rattle.mongo_generate.specs.Generated.{exchange_at, last_messages, IsGenerated};
+ghost use Rattle.mongo_generate.specs.Generated.{authentication_at, last_messages, IsGenerated};
 ghost use Rattle.mongo_generate.specs.Login.{key_of};
 
 use crate::{Acceptance, Client, UserLogin, generated_server};
@@ -60,8 +60,8 @@ pub fn generate<G: Ledger>(
 fn tally(met: Option<Acceptance>, accepted: &mut u32, hasher: &mut Sha256)
     requires few { accepted.old < 2 ^ 32 - 1 }
     requires met { IsSome met }
-    ensures counted { (x : Exchange) → met ≡ Some (acceptance_of x) → accepted.new ≡ accepted.old + 1 }
-    ensures digested { (x : Exchange) (before : List ℕ) → met ≡ Some (acceptance_of x) → Holds256 hasher.old before → Holds256 hasher.new (before ++ last_messages x) }
+    ensures counted { (x : Authentication) → met ≡ Some (acceptance_of x) → accepted.new ≡ accepted.old + 1 }
+    ensures digested { (x : Authentication) (before : List ℕ) → met ≡ Some (acceptance_of x) → Holds256 hasher.old before → Holds256 hasher.new (before ++ last_messages x) }
 {
     let Some(acceptance) = met else {
         unreachable!()
@@ -79,9 +79,9 @@ fn log_in_numbered<G: Ledger>(
     state: &mut LoginState,
     steps: &mut Steps<G>,
 ) -> Result<Option<Acceptance>, AllocError>
-    ensures accepted { IfOk result (λ met. met ≡ Some (acceptance_of (exchange_at number))) }
+    ensures accepted { IfOk result (λ met. met ≡ Some (acceptance_of (authentication_at number))) }
     // The server derives the key, and then the client does where it has no entry.
-    ensures takes { OnOk result (TakesKey (key_of (exchange_at number)) (ledgers (steps.old + 4096) state.old.salted) (ledgers steps.new state.new.salted)) }
+    ensures takes { OnOk result (TakesKey (key_of (authentication_at number)) (ledgers (steps.old + 4096) state.old.salted) (ledgers steps.new state.new.salted)) }
     ensures steps { steps.old ≤ steps.new }
 {
     let login = UserLogin::generated(alloc, number)?;

@@ -2,8 +2,8 @@
 ghost use Rattle.std.specs.Prelude.{◌≡◌, ◌+◌, ◌≤◌, ◌%◌, ◌++◌, decimal, IfOk, IfErr, OnOk};
 ghost use Rattle.mongo_wire.specs.declared.error.ErrorKind.TheVariants.{OutOfMemory};
 ghost use Rattle.mongo_server.specs.Server.{Serves};
-ghost use Rattle.mongo_generate.specs.Generated.{version_at, exchange_at, nonces_at};
-ghost use Rattle.mongo_generate.specs.Login.{IsExchangeClient};
+ghost use Rattle.mongo_generate.specs.Generated.{version_at, authentication_at, nonces_at};
+ghost use Rattle.mongo_generate.specs.Login.{IsAuthenticationClient};
 
 use crate::UserLogin;
 use itoa::Buffer;
@@ -19,14 +19,14 @@ const COUNT: u32 = 4096;
 
 impl UserLogin {
     ghost use Rattle.std.specs.Prelude.{◌≡◌, IfOk};
-    ghost use Rattle.mongo_generate.specs.Generated.{exchange_at, nonces_at};
-    ghost use Rattle.mongo_generate.specs.Login.{IsExchangeClient};
+    ghost use Rattle.mongo_generate.specs.Generated.{authentication_at, nonces_at};
+    ghost use Rattle.mongo_generate.specs.Login.{IsAuthenticationClient};
 
     /// The login of this number: by SCRAM-SHA-1 where it is even, else by SCRAM-SHA-256; user `u` and the number modulo 7,
     /// password `p` and the number modulo 3; the first nonce is 32 bytes of the number modulo 256, and the second of the
     /// next number.
     pub fn generated(alloc: Global, number: u32) -> Result<UserLogin, AllocError>
-        ensures login { IfOk result (IsExchangeClient (exchange_at number)) }
+        ensures login { IfOk result (IsAuthenticationClient (authentication_at number)) }
         ensures nonces { IfOk result (λ login. login.inputs.nonces ≡ nonces_at number) }
     {
         match numbered_login(alloc, number) {
@@ -37,7 +37,7 @@ impl UserLogin {
 }
 
 fn numbered_login(alloc: Global, number: u32) -> Result<UserLogin, Error>
-    ensures login { IfOk result (IsExchangeClient (exchange_at number)) }
+    ensures login { IfOk result (IsAuthenticationClient (authentication_at number)) }
     ensures nonces { IfOk result (λ login. login.inputs.nonces ≡ nonces_at number) }
     ensures refused { IfErr result (λ e. e.kind ≡ OutOfMemory) }
 {
@@ -63,7 +63,7 @@ pub fn generated_server<G: Ledger>(
     number: u32,
     steps: &mut Steps<G>,
 ) -> Result<ServerCore, AllocError>
-    ensures serves { IfOk result (λ server. Serves server (exchange_at number)) }
+    ensures serves { IfOk result (λ server. Serves server (authentication_at number)) }
     ensures cost { OnOk result (steps.new ≡ steps.old + 4096) }
     ensures steps { steps.old ≤ steps.new }
 {
@@ -78,7 +78,7 @@ fn numbered_server<G: Ledger>(
     number: u32,
     steps: &mut Steps<G>,
 ) -> Result<ServerCore, Error>
-    ensures serves { IfOk result (λ server. Serves server (exchange_at number)) }
+    ensures serves { IfOk result (λ server. Serves server (authentication_at number)) }
     ensures refused { IfErr result (λ e. e.kind ≡ OutOfMemory) }
     ensures cost { OnOk result (steps.new ≡ steps.old + 4096) }
     ensures steps { steps.old ≤ steps.new }

@@ -1,4 +1,4 @@
--- The client of an exchange accepts the server's messages.
+-- The client of an authentication accepts the server's messages.
 use Rattle.std.proofs.Common.{◌≡◌, ◌<◌, ◌^◌, ℕ, true, List, ◌++◌, drop, decimal, refl, ap, sym, subst, ◌∙◌}
 use Rattle.std.proofs.lemmas.List.Elements.{All-append}
 use Rattle.base64.specs.GeneralPurpose.{IsBytes}
@@ -11,7 +11,7 @@ use Rattle.mongo_scram.specs.User.{User}
 use Rattle.mongo_scram.specs.Version.{digest_of}
 use Rattle.mongo_server.specs.Acceptance.{IsClientOf, Accepts, challenge_of}
 use Rattle.mongo_server.specs.ClientMessages.{IsNonceByte, IsNonce}
-use Rattle.mongo_server.specs.Exchange.{Exchange, joined_of, salted_between, first_of, auth_message_between, close_of, server_final_of}
+use Rattle.mongo_server.specs.Authentication.{Authentication, joined_of, salted_between, first_of, auth_message_between, close_of, server_final_of}
 use Rattle.mongo_server.specs.ServerTexts.{server_final}
 use Rattle.mongo_server.proofs.ReadFirst.{read_first, read_count}
 
@@ -20,7 +20,7 @@ open-bare : (username nonce : List ℕ) → drop 3 (open_message username nonce)
 unfolding open_message
 open-bare username nonce = refl
 
-module _ (x : Exchange) (handed : Handed) (user : User) (conversation_id : OwnedValue) (client : IsClientOf x handed user) where
+module _ (x : Authentication) (handed : Handed) (user : User) (conversation_id : OwnedValue) (client : IsClientOf x handed user) where
   -- both sign the same
   signs : auth_message_by handed (challenge_of x conversation_id user) ≡ auth_message_between x
   signs = ap (λ bare. transcript bare (first_of x) (joined_of x)) (ap (λ (message : List ℕ). drop 3 message) client.said ∙ open-bare x.username x.nonce)
@@ -35,7 +35,7 @@ module _ (x : Exchange) (handed : Handed) (user : User) (conversation_id : Owned
   demands : server_final (verifier_by handed (challenge_of x conversation_id user)) ≡ server_final_of x
   demands = λ i. server_final (verifier (digest_of (client.version i)) (derives i) (signs i))
 
-pub accepts : (x : Exchange) (last : List ℕ) → IsNonce x.nonce → IsNonce x.suffix → IsBytes x.salt → x.count < 2 ^ 32 → last ≡ server_final_of x → Accepts x last
+pub accepts : (x : Authentication) (last : List ℕ) → IsNonce x.nonce → IsNonce x.suffix → IsBytes x.salt → x.count < 2 ^ 32 → last ≡ server_final_of x → Accepts x last
 accepts x last nonce_is suffix_is bytes within same = λ handed user conversation_id first_reply last_reply client carries. record {
   closes = closes x handed user conversation_id client;
   conversation = record {

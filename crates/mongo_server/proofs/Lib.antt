@@ -4,6 +4,6 @@ pub mod ClientFinals
 pub mod ClientFirsts
 pub mod ProofBytes
 pub mod ReadFirst
-pub mod ServedExchange
+pub mod ServedAuthentication
 pub mod ServerRows
 pub mod UserNames

@@ -1,7 +1,7 @@
 pub mod Acceptance
 pub mod Announced
+pub mod Authentication
 pub mod ClientMessages
-pub mod Exchange
 pub mod Parsed
 pub mod Server
 pub mod ServerTexts

@@ -11,7 +11,7 @@ use Rattle.mongo_server.specs.declared.server_core.ServerCore.{ServerCore}
 use Rattle.mongo_server.specs.declared.server_core.ServerConversation.{ServerConversation}
 use Rattle.mongo_server.specs.declared.user.ServerUser.{ServerUser}
 use Rattle.mongo_server.specs.ClientMessages.{IsNonce, IsClientFirst, IsClientFinal}
-use Rattle.mongo_server.specs.Exchange.{Exchange, joined_of, auth_message_between}
+use Rattle.mongo_server.specs.Authentication.{Authentication, joined_of, auth_message_between}
 use Rattle.mongo_server.specs.ServerTexts.{server_first, server_final}
 use Rattle.mongo_server.specs.User.{IsUserOf}
 
@@ -84,15 +84,15 @@ ClientFinalRow core message =
 abbrev pub ClientFinalRefused : ServerCore → List ℕ → ServerFault → Type 0
 ClientFinalRefused core message fault = ClientFinalRow core message fault ⊎ row_for OutOfMemory (IsSome (held_conversation core)) fault
 
--- ---- the server of an exchange
+-- ---- the server of an authentication
 
 -- it knows the user, and adds the suffix
-pub record Serves (core : ServerCore) (x : Exchange) : Type 0 where
+pub record Serves (core : ServerCore) (x : Authentication) : Type 0 where
   pub user : IsUserOf x.version x.username x.password x.salt x.count (server_user core)
   pub suffix : suffix_of core ≡ x.suffix
 
--- its conversation is that of the exchange
-pub record HasBegun (core : ServerCore) (x : Exchange) : Type 0 where
+-- its conversation is that of the authentication
+pub record HasBegun (core : ServerCore) (x : Authentication) : Type 0 where
   pub serves : Serves core x
   pub printable : IsNonce x.nonce
   pub bytes : IsBytes x.salt

@@ -81,7 +81,7 @@ impl ServerCore {
     ghost use Rattle.mongo_scram.specs.Messages.{bare_message};
     ghost use Rattle.mongo_server.specs.Acceptance.{Accepts};
     ghost use Rattle.mongo_server.specs.ClientMessages.{IsNonce, IsClientFirst};
-    ghost use Rattle.mongo_server.specs.Exchange.{Exchange, open_of, close_of, server_final_of, IsReadAs};
+    ghost use Rattle.mongo_server.specs.Authentication.{Authentication, open_of, close_of, server_final_of, IsReadAs};
     ghost use Rattle.mongo_server.specs.Server.{server_user, salt_of, suffix_of, username_of, held_conversation, conversation_by, first_by, BeginsConversation, HearsClientFirst, ClientFirstRow, IsOwed, IsClientFinalTaken, ClientFinalRow, ClientFinalRefused, Serves, HasBegun};
     ghost use Rattle.mongo_server.specs.declared.fault.ServerFault.{ServerFault as Fault};
     ghost use Rattle.mongo_server.specs.declared.fault.ServerFault.TheVariants.{NotStarted, OutOfMemory};
@@ -116,8 +116,8 @@ impl ServerCore {
         ensures exact { (fault : Fault) → ClientFirstRow self.old client_first.now fault → result ≡ Err fault }
         ensures unchanged { OnErr result (self.new ≡ self.old) }
 
-        // The client of any exchange with this server is answered, and reads the answer.
-        ensures accepts { (x : Exchange) → Serves self.old x → IsNonce x.nonce → client_first.now ≡ open_of x →
+        // The client of any authentication with this server is answered, and reads the answer.
+        ensures accepts { (x : Authentication) → Serves self.old x → IsNonce x.nonce → client_first.now ≡ open_of x →
             MatchResult result (λ text. IsReadAs text x × HasBegun self.new x) (λ fault. fault ≡ OutOfMemory) }
     {
         let message = match self.hear(client_first) {
@@ -148,8 +148,8 @@ impl ServerCore {
         ensures not_started { (result ≡ Err NotStarted) ↔ (held_conversation self.now ≡ None) }
         ensures refused { IfErr result (λ fault. (fault ≡ NotStarted) ⊎ (fault ≡ OutOfMemory)) }
 
-        // The client of any exchange with this server demands that message, and accepts it.
-        ensures accepts { (x : Exchange) → HasBegun self.now x →
+        // The client of any authentication with this server demands that message, and accepts it.
+        ensures accepts { (x : Authentication) → HasBegun self.now x →
             MatchResult result (λ text. (text ≡ server_final_of x) × Accepts x text) (λ fault. fault ≡ OutOfMemory) }
     {
         match &self.conversation {
@@ -173,11 +173,11 @@ impl ServerCore {
         ensures exact { (fault : Fault) → ClientFinalRow self.old client_final.now fault → (result ≡ Err fault) ⊎ (result ≡ Err OutOfMemory) }
         ensures unchanged { self.new ≡ self.old }
 
-        // In any exchange that has begun, only the client's last message is taken, byte for byte.
-        ensures only { (x : Exchange) → HasBegun self.old x → OnOk result (client_final.now ≡ close_of x) }
+        // In any authentication that has begun, only the client's last message is taken, byte for byte.
+        ensures only { (x : Authentication) → HasBegun self.old x → OnOk result (client_final.now ≡ close_of x) }
 
         // That message is taken, and the client accepts the answer.
-        ensures accepts { (x : Exchange) → HasBegun self.old x → client_final.now ≡ close_of x →
+        ensures accepts { (x : Authentication) → HasBegun self.old x → client_final.now ≡ close_of x →
             MatchResult result (λ text. (text ≡ server_final_of x) × Accepts x text) (λ fault. fault ≡ OutOfMemory) }
     {
         match self.check(alloc, client_final) {

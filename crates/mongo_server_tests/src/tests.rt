@@ -1,6 +1,6 @@
 ghost use Rattle.std.specs.Prelude.{◌≡◌, ◌<◌, ◌≤◌};
 
-mod exchanges;
+mod authentications;
 mod refusals;
 
 use base64::engine::general_purpose::STANDARD;

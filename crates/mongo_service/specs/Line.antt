@@ -4,7 +4,7 @@ use Rattle.std.specs.Io.KnownBytes.{Consumes}
 use Rattle.mongo_wire.specs.Outside.{State, ReadsOn, Unstopped, FailsToRead, MeetsEnd, RanOut}
 use Rattle.mongo_wire.specs.declared.error.ErrorKind.{ErrorKind}
 use Rattle.mongo_wire.specs.declared.error.ErrorKind.TheVariants as kind
-use Rattle.mongo_session.specs.ServeSettings.{settings_said, settings_as_said}
+use Rattle.mongo_session.specs.ServeSettings.{settings_meant, settings_values}
 use Rattle.mongo_session.specs.declared.serve_settings.ServeSettings.{ServeSettings}
 use Rattle.mongo_service.specs.declared.settings_line.LineError.{LineError}
 use Rattle.mongo_service.specs.declared.settings_line.LineError.TheVariants as line
@@ -79,13 +79,13 @@ pub record IsAfterLine (old new : State) (settings : ServeSettings) : Type 0 whe
   pub on : ReadsOn old new
   pub line : List ℕ
   pub is_line : TakesLine old new line
-  pub says : settings_said line ≡ Some (settings_as_said settings)
+  pub says : settings_meant line ≡ Some (settings_values settings)
 
 -- a line was taken that says no settings
 pub record SaysNoSettings (old new : State) : Type 0 where
   pub line : List ℕ
   pub is_line : TakesLine old new line
-  pub says : settings_said line ≡ None
+  pub says : settings_meant line ≡ None
 
 -- why there are no settings
 abbrev pub HasNoSettings : State → State → Type 0

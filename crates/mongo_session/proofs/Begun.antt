@@ -9,7 +9,7 @@ use Rattle.mongo_scram.specs.UserName.{escaped}
 use Rattle.mongo_scram.specs.declared.scram_version.ScramVersion.{ScramVersion}
 use Rattle.mongo_scram.proofs.Parts.{one_cut}
 use Rattle.mongo_server.specs.ClientMessages.{IsNonce, IsClientFirst}
-use Rattle.mongo_server.specs.Exchange.{Exchange, open_of, IsReadAs}
+use Rattle.mongo_server.specs.Authentication.{Authentication, open_of, IsReadAs}
 use Rattle.mongo_server.specs.Server.{server_user, suffix_of, username_of, Serves, HasBegun}
 use Rattle.mongo_server.specs.User.{IsUserOf}
 use Rattle.mongo_server.specs.declared.fault.ServerFault.{ServerFault}
@@ -21,8 +21,8 @@ use Rattle.mongo_server.proofs.UserNames.{escaped_same, escaped-no_comma}
 use Rattle.mongo_wire.specs.declared.error.ErrorKind.{ErrorKind}
 use Rattle.mongo_wire.specs.declared.error.ErrorKind.TheVariants.{OutOfMemory as WantOfMemory}
 use Rattle.mongo_session.specs.Accounts.{AreOfOneUser, IsFirstAccount}
-use Rattle.mongo_session.specs.Login.{exchange_of}
-use Rattle.mongo_session.specs.Opened.{NamesUser, Suits, IsFound, IsOpening, BeginsExchange, OpensFor, OpensBy}
+use Rattle.mongo_session.specs.Login.{authentication_of}
+use Rattle.mongo_session.specs.Opened.{NamesUser, Suits, IsFound, IsOpening, BeginsAuthentication, OpensFor, OpensBy}
 use Rattle.mongo_session.specs.Sasl.{AsksFor}
 use Rattle.mongo_bson.specs.declared.fault.BsonFault.{BsonFault}
 use Rattle.mongo_session.specs.declared.open.OpenedLogin.{OpenedLogin}
@@ -63,7 +63,7 @@ names_front message front name rest is front_is (says, said) = (
 
 -- the server of an account, from what its user was made of
 pub served_by : (account : Account) (suffix nonce : List ℕ) (core : ServerCore) (user : ServerUser) (name password salt : List ℕ) → name ≡ account.name → password ≡ account.password → salt ≡ account.salt
-    → IsUserOf account.version name password salt account.count user → server_user core ≡ user → suffix_of core ≡ suffix → Serves core (exchange_of account suffix nonce)
+    → IsUserOf account.version name password salt account.count user → server_user core ≡ user → suffix_of core ≡ suffix → Serves core (authentication_of account suffix nonce)
 served_by account suffix nonce core user name password salt named worded salted h user_is suffix_is =
     let a = subst (λ n. IsUserOf account.version n password salt account.count user) named h in
     let b = subst (λ w. IsUserOf account.version account.name w salt account.count user) worded a in
@@ -74,11 +74,11 @@ pub begins : (account : Account) (suffix message : List ℕ) (old new : ServerCo
     → IsUserOf account.version name password salt account.count user → server_user old ≡ user → suffix_of old ≡ suffix
     → ((kind : ErrorKind) → PasswordRow account.version password kind → ⊥)
     → (nonce : List ℕ) → IsClientFirst message (username_of old) nonce
-    → ((x : Exchange) → Serves old x → IsNonce x.nonce → message ≡ open_of x → IsReadAs text x × HasBegun new x)
+    → ((x : Authentication) → Serves old x → IsNonce x.nonce → message ≡ open_of x → IsReadAs text x × HasBegun new x)
     → (copy : List ℕ) (skips : Bool) → copy ≡ account.name
     → OpensFor account suffix message skips (Some (record { login = record { core = new; name = copy; skips_empty_exchange = skips; is_proved = false }; answer = text }))
 begins account suffix message old new text user name password salt named worded salted h user_is suffix_is usable nonce first accepts copy skips copied =
-    let x = exchange_of account suffix nonce in
+    let x = authentication_of account suffix nonce in
     let serves : Serves old x = served_by account suffix nonce old user name password salt named worded salted h user_is suffix_is in
     let name_is : username_of old ≡ account.name = ap (λ u. u.username) user_is ∙ h.username_is ∙ named in
     let said : message ≡ open_of x = first.message_is ∙ ap (λ n. open_message n nonce) name_is in
@@ -97,22 +97,22 @@ pub same_version : (v w : ScramVersion) (o : Option ScramVersion) → o ≡ Some
 same_version v w o p q = let same : Some v ≡ Some w = sym p ∙ q in cc
 
 -- nothing is asked for without a mechanism, nor without a message
-pub no_version : (settings : ServeSettings) (start : StartRequest) → start.version ≡ None → (x : Exchange) → AsksFor settings start x → ⊥
+pub no_version : (settings : ServeSettings) (start : StartRequest) → start.version ≡ None → (x : Authentication) → AsksFor settings start x → ⊥
 no_version settings start none x asked = let never : None ≡ Some x.version = sym none ∙ asked.version_is in cc
 
-pub no_payload : (settings : ServeSettings) (start : StartRequest) → start.payload ≡ None → (x : Exchange) → AsksFor settings start x → ⊥
+pub no_payload : (settings : ServeSettings) (start : StartRequest) → start.payload ≡ None → (x : Authentication) → AsksFor settings start x → ⊥
 no_payload settings start none x asked = let never : None ≡ Some (open_of x) = sym (ap option_copied none) ∙ asked.said in cc
 
 module _ (settings : ServeSettings) (start : StartRequest) (version : ScramVersion) (message : Bor (List ℕ)) (version_is : start.version ≡ Some version) (message_is : start.payload ≡ Some message) where
   -- the account of what is asked for suits
-  asked_suits : (x : Exchange) (asked : AsksFor settings start x) → Suits version message.now asked.of_settings.account
+  asked_suits : (x : Authentication) (asked : AsksFor settings start x) → Suits version message.now asked.of_settings.account
   asked_suits x asked =
       let of = asked.of_settings in (
-        ap (λ y. y.version) (sym of.exchange_is) ∙ sym (same_version version x.version start.version version_is asked.version_is),
-        (x.nonce, same_text start.payload message (open_of x) message_is asked.said ∙ ap open_of of.exchange_is),
+        ap (λ y. y.version) (sym of.authentication_is) ∙ sym (same_version version x.version start.version version_is asked.version_is),
+        (x.nonce, same_text start.payload message (open_of x) message_is asked.said ∙ ap open_of of.authentication_is),
       )
 
-  pub none_suits : AllByRecursion (λ other. Suits version message.now other → ⊥) settings.accounts.items → (x : Exchange) → AsksFor settings start x → ⊥
+  pub none_suits : AllByRecursion (λ other. Suits version message.now other → ⊥) settings.accounts.items → (x : Authentication) → AsksFor settings start x → ⊥
   none_suits none x asked =
       let counts = asked.of_settings.counts in
       all_split (λ other. Suits version message.now other → ⊥) counts.before counts.after asked.of_settings.account (subst (AllByRecursion (λ other. Suits version message.now other → ⊥)) counts.split none) (asked_suits x asked)
@@ -138,21 +138,21 @@ module _ (settings : ServeSettings) (start : StartRequest) (version : ScramVersi
   opens_by account suffix is suffix_is None none = λ x asked.
       let of = asked.of_settings in
       let same : of.account ≡ account = one_first_account settings.accounts.items of.account account of.counts (is_first account is) (of_one_user of.account account (asked_suits x asked) is.suits) in
-      let said : message.now ≡ open_message of.account.name x.nonce = same_text start.payload message (open_of x) message_is asked.said ∙ ap open_of of.exchange_is in
+      let said : message.now ≡ open_message of.account.name x.nonce = same_text start.payload message (open_of x) message_is asked.said ∙ ap open_of of.authentication_is in
       none x.nonce (record {
         usable = subst (λ (a : Account). (kind : ErrorKind) → PasswordRow a.version a.password kind → ⊥) same of.usable;
         printable = of.printable;
         said = said ∙ ap (λ (a : Account). open_message a.name x.nonce) same;
       })
   opens_by account suffix is suffix_is (Some opened) (nonce, opening, has_begun) =
-      let x = exchange_of account settings.suffix nonce in (
+      let x = authentication_of account settings.suffix nonce in (
         x,
         record {
-          of_settings = record { account = account; counts = is_first account is; usable = opening.usable; printable = opening.printable; exchange_is = refl };
+          of_settings = record { account = account; counts = is_first account is; usable = opening.usable; printable = opening.printable; authentication_is = refl };
           version_is = version_is ∙ ap Some (sym is.suits.0);
           said = ap option_copied message_is ∙ ap Some opening.said;
         },
-        subst (λ s. BeginsExchange (exchange_of account s nonce) start.skips_empty_exchange opened) suffix_is has_begun,
+        subst (λ s. BeginsAuthentication (authentication_of account s nonce) start.skips_empty_exchange opened) suffix_is has_begun,
       )
 
   pub opens_all : (account : Account) (suffix : List ℕ) → IsFound settings.accounts.items version message.now account → suffix ≡ settings.suffix
@@ -162,7 +162,7 @@ module _ (settings : ServeSettings) (start : StartRequest) (version : ScramVersi
 
 -- ---- where none begins
 
--- no exchange of an account whose password its mechanism doesn't take
+-- no authentication of an account whose password its mechanism doesn't take
 unusable : (account : Account) (suffix message password : List ℕ) (kind : ErrorKind) → password ≡ account.password → PasswordRow account.version password kind → (nonce : List ℕ) → IsOpening account suffix message nonce → ⊥
 unusable account suffix message password kind worded row nonce opening = opening.usable kind (subst (λ w. PasswordRow account.version w kind) worded row)
 
@@ -182,6 +182,6 @@ unopened (Err fault) account suffix message skips password kind worded refused n
 -- nor of a message that its server refuses
 pub unheard : (account : Account) (suffix message : List ℕ) (core : ServerCore) (user : ServerUser) (name password salt : List ℕ) (fault : ServerFault) → name ≡ account.name → password ≡ account.password → salt ≡ account.salt
     → IsUserOf account.version name password salt account.count user → server_user core ≡ user → suffix_of core ≡ suffix
-    → ((x : Exchange) → Serves core x → IsNonce x.nonce → message ≡ open_of x → fault ≡ OutOfMemory) → (fault ≡ OutOfMemory → ⊥) → (nonce : List ℕ) → IsOpening account suffix message nonce → ⊥
+    → ((x : Authentication) → Serves core x → IsNonce x.nonce → message ≡ open_of x → fault ≡ OutOfMemory) → (fault ≡ OutOfMemory → ⊥) → (nonce : List ℕ) → IsOpening account suffix message nonce → ⊥
 unheard account suffix message core user name password salt fault named worded salted h user_is suffix_is accepts not_memory nonce opening =
-    not_memory (accepts (exchange_of account suffix nonce) (served_by account suffix nonce core user name password salt named worded salted h user_is suffix_is) opening.printable opening.said)
+    not_memory (accepts (authentication_of account suffix nonce) (served_by account suffix nonce core user name password salt named worded salted h user_is suffix_is) opening.printable opening.said)

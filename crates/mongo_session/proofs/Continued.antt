@@ -1,7 +1,7 @@
 -- How a login goes on: what a message comes to once its login was taken out of the session.
 use Rattle.std.proofs.Common.{◌≡◌, ℕ, Bool, true, false, Option, None, Some, Result, Ok, Err, IfOk, List, [], option_copied, sym, ap, subst, ◌∙◌, inl, inr}
 use Rattle.std.specs.Borrow.{Bor}
-use Rattle.mongo_server.specs.Exchange.{Exchange, close_of}
+use Rattle.mongo_server.specs.Authentication.{Authentication, close_of}
 use Rattle.mongo_server.specs.Server.{HasBegun}
 use Rattle.mongo_session.specs.Last.{AnswersLast, AnswersEmpty}
 use Rattle.mongo_session.specs.Sasl.{GoesOn, AnswersContinue}
@@ -32,7 +32,7 @@ module _ (old : Session) (next : ContinueRequest) (login : OpenLogin) (message :
     last : login.is_proved ≡ false → (new : Session) (answer : Option SaslReply) → AnswersLast (record { user = old.user; login = rest }) login message.now new answer → AnswersContinue old next new answer
     last unproved new (Some answer) h = inl (record { login = login; message = message.now; goes_on = goes_on; unproved = unproved; closes = h.closes; done_is = h.done_is; new_is = h.new_is })
     last unproved new None h = (
-      λ (x : Exchange) (other : OpenLogin) closes.
+      λ (x : Authentication) (other : OpenLogin) closes.
           h.0 x (subst (λ (l : OpenLogin). HasBegun l.core x) (one_login other login old.login closes.goes_on.held held) closes.begun) (one_message next.payload message (close_of x) given closes.goes_on.said),
       λ (other : OpenLogin) ends. differ (ap (λ (l : OpenLogin). l.is_proved) (one_login other login old.login ends.goes_on.held held) ∙ unproved) ends.proved,
       given_up new h.1,
@@ -46,7 +46,7 @@ module _ (old : Session) (next : ContinueRequest) (login : OpenLogin) (message :
     empty : login.is_proved ≡ true → (new : Session) (answer : Option SaslReply) → AnswersEmpty (record { user = old.user; login = rest }) login message.now new answer → AnswersContinue old next new answer
     empty proved new (Some answer) h = inr (record { login = login; ends = record { goes_on = subst (GoesOn old next login) h.0 goes_on; proved = proved }; answer_is = h.1; new_is = h.2 })
     empty proved new None h = (
-      λ (x : Exchange) (other : OpenLogin) closes. differ closes.unproved (ap (λ (l : OpenLogin). l.is_proved) (one_login other login old.login closes.goes_on.held held) ∙ proved),
+      λ (x : Authentication) (other : OpenLogin) closes. differ closes.unproved (ap (λ (l : OpenLogin). l.is_proved) (one_login other login old.login closes.goes_on.held held) ∙ proved),
       λ (other : OpenLogin) ends. h.0 (one_message next.payload message [] given ends.goes_on.said),
       given_up new h.1,
     )

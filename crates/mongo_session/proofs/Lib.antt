@@ -1,5 +1,4 @@
 pub mod Accounts
-pub mod Asked
 pub mod Begun
 pub mod Carried
 pub mod Continued
@@ -7,5 +6,6 @@ pub mod Derived
 pub mod Described
 pub mod PlainKeys
 pub mod Remembered
-pub mod Said
+pub mod RequestFields
+pub mod SettingsRead
 pub mod Versions

@@ -1,7 +1,7 @@
 -- What a session remembers, as requests come.
 use Rattle.std.proofs.Common.{◌≡◌, ℕ, Bool, true, false, Option, None, Some, IfSome, List, [], ◌∷◌, ◌++◌, option_copied, refl, sym, ap, ◌∙◌, subst, append_assoc}
 use Rattle.std.specs.Borrow.{Bor}
-use Rattle.mongo_server.specs.Exchange.{Exchange, open_of, close_of}
+use Rattle.mongo_server.specs.Authentication.{Authentication, open_of, close_of}
 use Rattle.mongo_session.specs.declared.open.OpenedLogin.{OpenedLogin}
 use Rattle.mongo_session.specs.declared.request.StartRequest.{StartRequest}
 use Rattle.mongo_session.specs.declared.session.OpenLogin.{OpenLogin}
@@ -13,7 +13,7 @@ use Rattle.mongo_session.specs.Opened.{OpensBy}
 
 -- ---- one request more
 
-pub opened_later : (x : Exchange) (requests : List (List ℕ)) (d : List ℕ) → HasOpened x requests → HasOpened x (requests ++ d ∷ [])
+pub opened_later : (x : Authentication) (requests : List (List ℕ)) (d : List ℕ) → HasOpened x requests → HasOpened x (requests ++ d ∷ [])
 opened_later x requests d h = record {
   before = h.before;
   request = h.request;
@@ -22,10 +22,10 @@ opened_later x requests d h = record {
   opens = h.opens;
 }
 
-pub opened_now : (x : Exchange) (requests : List (List ℕ)) (d : List ℕ) → OpensLogin d (open_of x) → HasOpened x (requests ++ d ∷ [])
+pub opened_now : (x : Authentication) (requests : List (List ℕ)) (d : List ℕ) → OpensLogin d (open_of x) → HasOpened x (requests ++ d ∷ [])
 opened_now x requests d h = record { before = requests; request = d; after = []; split = refl; opens = h }
 
-pub proved_later : (x : Exchange) (requests : List (List ℕ)) (d : List ℕ) → HasProved x requests → HasProved x (requests ++ d ∷ [])
+pub proved_later : (x : Authentication) (requests : List (List ℕ)) (d : List ℕ) → HasProved x requests → HasProved x (requests ++ d ∷ [])
 proved_later x requests d h = record {
   before = h.before;
   request = h.request;
@@ -35,7 +35,7 @@ proved_later x requests d h = record {
   closes = h.closes;
 }
 
-pub proved_now : (x : Exchange) (requests : List (List ℕ)) (d : List ℕ) → HasOpened x requests → SaysSaslContinue d (close_of x) → HasProved x (requests ++ d ∷ [])
+pub proved_now : (x : Authentication) (requests : List (List ℕ)) (d : List ℕ) → HasOpened x requests → SaysSaslContinue d (close_of x) → HasProved x (requests ++ d ∷ [])
 proved_now x requests d h c = record { before = requests; request = d; after = []; split = refl; opened = h; closes = c }
 
 logged_in_later : (settings : ServeSettings) (name : List ℕ) (requests : List (List ℕ)) (d : List ℕ) → HasLoggedIn settings name requests → HasLoggedIn settings name (requests ++ d ∷ [])

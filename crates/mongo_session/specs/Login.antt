@@ -2,7 +2,7 @@
 use Rattle.std.specs.Prelude.{◌≡◌, ℕ, true, None, List, ◌∷◌, ◌++◌, IfSome}
 use Rattle.mongo_scram.specs.Key.{PasswordRow}
 use Rattle.mongo_server.specs.ClientMessages.{IsNonce}
-use Rattle.mongo_server.specs.Exchange.{Exchange, open_of, close_of}
+use Rattle.mongo_server.specs.Authentication.{Authentication, open_of, close_of}
 use Rattle.mongo_server.specs.Server.{HasBegun}
 use Rattle.mongo_wire.specs.declared.error.ErrorKind.{ErrorKind}
 use Rattle.mongo_session.specs.Accounts.{IsFirstAccount}
@@ -12,22 +12,22 @@ use Rattle.mongo_session.specs.declared.serve_settings.Account.{Account}
 use Rattle.mongo_session.specs.declared.serve_settings.ServeSettings.{ServeSettings}
 use Rattle.mongo_session.specs.Requests.{OpensLogin, SaysSaslContinue}
 
--- the exchange of an account (RFC 5802, section 3) with this suffix and the client's nonce
-abbrev pub exchange_of : Account → List ℕ → List ℕ → Exchange
-exchange_of account suffix nonce = record { version = account.version; username = account.name; password = account.password; salt = account.salt; count = account.count; nonce = nonce; suffix = suffix }
+-- the authentication of an account (RFC 5802, section 3) with this suffix and the client's nonce
+abbrev pub authentication_of : Account → List ℕ → List ℕ → Authentication
+authentication_of account suffix nonce = record { version = account.version; username = account.name; password = account.password; salt = account.salt; count = account.count; nonce = nonce; suffix = suffix }
 
--- An exchange of the settings: of an account that counts, whose password its mechanism takes.
-pub record IsExchange (settings : ServeSettings) (x : Exchange) : Type 0 where
+-- An authentication of the settings: of an account that counts, whose password its mechanism takes.
+pub record IsAuthentication (settings : ServeSettings) (x : Authentication) : Type 0 where
   pub account : Account
   pub counts : IsFirstAccount settings.accounts.items account
   pub usable : (kind : ErrorKind) → PasswordRow account.version account.password kind → ⊥
   pub printable : IsNonce x.nonce
-  pub exchange_is : x ≡ exchange_of account settings.suffix x.nonce
+  pub authentication_is : x ≡ authentication_of account settings.suffix x.nonce
 
 -- ---- the requests, each a document
 
--- one of them begins the login of the exchange: its message is the client's first
-pub record HasOpened (x : Exchange) (requests : List (List ℕ)) : Type 0 where
+-- one of them begins the login of the authentication: its message is the client's first
+pub record HasOpened (x : Authentication) (requests : List (List ℕ)) : Type 0 where
   pub before : List (List ℕ)
   pub request : List ℕ
   pub after : List (List ℕ)
@@ -35,7 +35,7 @@ pub record HasOpened (x : Exchange) (requests : List (List ℕ)) : Type 0 where
   pub opens : OpensLogin request (open_of x)
 
 -- and a later one proves the key: its message is the client's last, byte for byte
-pub record HasProved (x : Exchange) (requests : List (List ℕ)) : Type 0 where
+pub record HasProved (x : Authentication) (requests : List (List ℕ)) : Type 0 where
   pub before : List (List ℕ)
   pub request : List ℕ
   pub after : List (List ℕ)
@@ -43,10 +43,10 @@ pub record HasProved (x : Exchange) (requests : List (List ℕ)) : Type 0 where
   pub opened : HasOpened x before
   pub closes : SaysSaslContinue request (close_of x)
 
--- the client's messages of an exchange of this user were sent
+-- the client's messages of an authentication of this user were sent
 pub record HasLoggedIn (settings : ServeSettings) (name : List ℕ) (requests : List (List ℕ)) : Type 0 where
-  pub x : Exchange
-  pub of_settings : IsExchange settings x
+  pub x : Authentication
+  pub of_settings : IsAuthentication settings x
   pub name_is : name ≡ x.username
   pub proved : HasProved x requests
 
@@ -58,8 +58,8 @@ fresh = record { user = None; login = None }
 
 -- a login that goes on
 pub record IsOpenLogin (settings : ServeSettings) (requests : List (List ℕ)) (login : OpenLogin) : Type 0 where
-  pub x : Exchange
-  pub of_settings : IsExchange settings x
+  pub x : Authentication
+  pub of_settings : IsAuthentication settings x
   pub name_is : login.name ≡ x.username
   pub begun : HasBegun login.core x
   pub opened : HasOpened x requests

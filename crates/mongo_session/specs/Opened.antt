@@ -6,13 +6,13 @@ use Rattle.mongo_scram.specs.Key.{PasswordRow}
 use Rattle.mongo_scram.specs.Messages.{open_message}
 use Rattle.mongo_scram.specs.declared.scram_version.ScramVersion.{ScramVersion}
 use Rattle.mongo_server.specs.ClientMessages.{IsNonce}
-use Rattle.mongo_server.specs.Exchange.{Exchange, first_of}
+use Rattle.mongo_server.specs.Authentication.{Authentication, first_of}
 use Rattle.mongo_wire.specs.declared.error.ErrorKind.{ErrorKind}
 use Rattle.mongo_session.specs.declared.open.OpenedLogin.{OpenedLogin}
 use Rattle.mongo_session.specs.declared.request.StartRequest.{StartRequest}
 use Rattle.mongo_session.specs.declared.serve_settings.Account.{Account}
 use Rattle.mongo_session.specs.declared.serve_settings.ServeSettings.{ServeSettings}
-use Rattle.mongo_session.specs.Login.{exchange_of}
+use Rattle.mongo_session.specs.Login.{authentication_of}
 use Rattle.mongo_session.specs.Sasl.{AsksFor, IsBegun}
 
 -- ---- the account
@@ -39,23 +39,23 @@ FindsAccount accounts version message (Some account) = IsFound accounts version 
 
 -- ---- the login
 
--- the message is a client's first of the account's exchange of this nonce, and the mechanism takes the password
+-- the message is a client's first of the account's authentication of this nonce, and the mechanism takes the password
 pub record IsOpening (account : Account) (suffix message nonce : List ℕ) : Type 0 where
   pub usable : (kind : ErrorKind) → PasswordRow account.version account.password kind → ⊥
   pub printable : IsNonce nonce
   pub said : message ≡ open_message account.name nonce
 
--- a login of the exchange has begun, and the answer is the server's first message
-pub record BeginsExchange (x : Exchange) (skips : Bool) (opened : OpenedLogin) : Type 0 where
+-- a login of the authentication has begun, and the answer is the server's first message
+pub record BeginsAuthentication (x : Authentication) (skips : Bool) (opened : OpenedLogin) : Type 0 where
   pub begun : IsBegun x skips opened.login
   pub answer_is : opened.answer ≡ first_of x
 
 -- what the message comes to at an account
 abbrev pub OpensFor : Account → List ℕ → List ℕ → Bool → Option OpenedLogin → Type 0
 OpensFor account suffix message skips None = (nonce : List ℕ) → IsOpening account suffix message nonce → ⊥
-OpensFor account suffix message skips (Some opened) = (nonce : List ℕ) × IsOpening account suffix message nonce × BeginsExchange (exchange_of account suffix nonce) skips opened
+OpensFor account suffix message skips (Some opened) = (nonce : List ℕ) × IsOpening account suffix message nonce × BeginsAuthentication (authentication_of account suffix nonce) skips opened
 
--- what a `saslStart` comes to: a login begins exactly where it asks for an exchange of the settings
+-- what a `saslStart` comes to: a login begins exactly where it asks for an authentication of the settings
 abbrev pub OpensBy : ServeSettings → StartRequest → Option OpenedLogin → Type 0
-OpensBy settings start None = (x : Exchange) → AsksFor settings start x → ⊥
-OpensBy settings start (Some opened) = (x : Exchange) × AsksFor settings start x × BeginsExchange x start.skips_empty_exchange opened
+OpensBy settings start None = (x : Authentication) → AsksFor settings start x → ⊥
+OpensBy settings start (Some opened) = (x : Authentication) × AsksFor settings start x × BeginsAuthentication x start.skips_empty_exchange opened

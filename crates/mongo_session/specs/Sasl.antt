@@ -1,7 +1,7 @@
 -- What the commands of a login come to (RFC 5802, section 3, as the server sees it): which are answered, by which message, and which are
 -- refused.
 use Rattle.std.specs.Prelude.{◌≡◌, ℕ, ◌⊎◌, Bool, true, false, Option, None, Some, List, [], if◌then◌else◌, IsSomeAnd, option_copied}
-use Rattle.mongo_server.specs.Exchange.{Exchange, open_of, first_of, close_of, server_final_of}
+use Rattle.mongo_server.specs.Authentication.{Authentication, open_of, first_of, close_of, server_final_of}
 use Rattle.mongo_server.specs.Server.{HasBegun}
 use Rattle.mongo_session.specs.declared.reply.SaslReply.{SaslReply}
 use Rattle.mongo_session.specs.declared.request.ContinueRequest.{ContinueRequest}
@@ -9,18 +9,18 @@ use Rattle.mongo_session.specs.declared.request.StartRequest.{StartRequest}
 use Rattle.mongo_session.specs.declared.session.OpenLogin.{OpenLogin}
 use Rattle.mongo_session.specs.declared.session.Session.{Session}
 use Rattle.mongo_session.specs.declared.serve_settings.ServeSettings.{ServeSettings}
-use Rattle.mongo_session.specs.Login.{IsExchange}
+use Rattle.mongo_session.specs.Login.{IsAuthentication}
 
 -- ---- a login begins
 
--- A `saslStart` asks for an exchange of the settings: by its mechanism, and by the client's first message.
-pub record AsksFor (settings : ServeSettings) (start : StartRequest) (x : Exchange) : Type 0 where
-  pub of_settings : IsExchange settings x
+-- A `saslStart` asks for an authentication of the settings: by its mechanism, and by the client's first message.
+pub record AsksFor (settings : ServeSettings) (start : StartRequest) (x : Authentication) : Type 0 where
+  pub of_settings : IsAuthentication settings x
   pub version_is : start.version ≡ Some x.version
   pub said : option_copied start.payload ≡ Some (open_of x)
 
--- a login of the exchange has begun, and its key isn't proved yet
-pub record IsBegun (x : Exchange) (skips : Bool) (login : OpenLogin) : Type 0 where
+-- a login of the authentication has begun, and its key isn't proved yet
+pub record IsBegun (x : Authentication) (skips : Bool) (login : OpenLogin) : Type 0 where
   pub begun : HasBegun login.core x
   pub name_is : login.name ≡ x.username
   pub skips_is : login.skips_empty_exchange ≡ skips
@@ -28,15 +28,15 @@ pub record IsBegun (x : Exchange) (skips : Bool) (login : OpenLogin) : Type 0 wh
 
 -- The login that was asked for has begun, and the message is the server's first.
 pub record BeginsLogin (settings : ServeSettings) (start : StartRequest) (new : Session) (message : SaslReply) : Type 0 where
-  pub x : Exchange
+  pub x : Authentication
   pub asked : AsksFor settings start x
   pub begun : IsSomeAnd new.login (IsBegun x start.skips_empty_exchange)
   pub message_is : message ≡ record { is_done = false; payload = first_of x }
 
--- What a `saslStart` comes to. It is refused exactly where it asks for no exchange of the settings; then no login goes on.
+-- What a `saslStart` comes to. It is refused exactly where it asks for no authentication of the settings; then no login goes on.
 abbrev pub AnswersStart : ServeSettings → StartRequest → Session → Option SaslReply → Type 0
 AnswersStart settings start new (Some message) = BeginsLogin settings start new message
-AnswersStart settings start new None = ((x : Exchange) → AsksFor settings start x → ⊥) × (new.login ≡ None)
+AnswersStart settings start new None = ((x : Authentication) → AsksFor settings start x → ⊥) × (new.login ≡ None)
 
 -- ---- a login goes on
 
@@ -46,8 +46,8 @@ pub record GoesOn (old : Session) (next : ContinueRequest) (login : OpenLogin) (
   pub held : old.login ≡ Some login
   pub said : option_copied next.payload ≡ Some message
 
--- the message is the client's last of the exchange, which the login has begun
-pub record Closes (old : Session) (next : ContinueRequest) (x : Exchange) (login : OpenLogin) : Type 0 where
+-- the message is the client's last of the authentication, which the login has begun
+pub record Closes (old : Session) (next : ContinueRequest) (x : Authentication) (login : OpenLogin) : Type 0 where
   pub goes_on : GoesOn old next login (close_of x)
   pub begun : HasBegun login.core x
   pub unproved : login.is_proved ≡ false
@@ -65,13 +65,13 @@ session_of_login login = record { user = Some login.name; login = None }
 abbrev pub after_proof : Session → OpenLogin → Session
 after_proof old login = if login.skips_empty_exchange then session_of_login login else record old { login = Some (record login { is_proved = true }) }
 
--- The key is proved: of every exchange that the login has begun this is the client's last message, and the answer the server's last.
+-- The key is proved: of every authentication that the login has begun this is the client's last message, and the answer the server's last.
 pub record ProvesKey (old : Session) (next : ContinueRequest) (new : Session) (answer : SaslReply) : Type 0 where
   pub login : OpenLogin
   pub message : List ℕ
   pub goes_on : GoesOn old next login message
   pub unproved : login.is_proved ≡ false
-  pub closes : (x : Exchange) → HasBegun login.core x → (message ≡ close_of x) × (answer.payload ≡ server_final_of x)
+  pub closes : (x : Authentication) → HasBegun login.core x → (message ≡ close_of x) × (answer.payload ≡ server_final_of x)
   pub done_is : answer.is_done ≡ login.skips_empty_exchange
   pub new_is : new ≡ after_proof old login
 
@@ -82,7 +82,7 @@ pub record ClosesLogin (old : Session) (next : ContinueRequest) (new : Session) 
   pub answer_is : answer ≡ record { is_done = true; payload = [] }
   pub new_is : new ≡ session_of_login login
 
--- What a `saslContinue` comes to. It is refused exactly where it neither closes an exchange nor ends a login; then no login goes on.
+-- What a `saslContinue` comes to. It is refused exactly where it neither closes an authentication nor ends a login; then no login goes on.
 abbrev pub AnswersContinue : Session → ContinueRequest → Session → Option SaslReply → Type 0
 AnswersContinue old next new (Some answer) = ProvesKey old next new answer ⊎ ClosesLogin old next new answer
-AnswersContinue old next new None = ((x : Exchange) (login : OpenLogin) → Closes old next x login → ⊥) × ((login : OpenLogin) → EndsEmpty old next login → ⊥) × (new ≡ record old { login = None })
+AnswersContinue old next new None = ((x : Authentication) (login : OpenLogin) → Closes old next x login → ⊥) × ((login : OpenLogin) → EndsEmpty old next login → ⊥) × (new ≡ record old { login = None })

@@ -68,7 +68,7 @@ suffix_in d = option_and_then (λ nonce. if is_suffix nonce then Some nonce else
 -- ---- users
 
 -- what a text says of a user by one mechanism
-pub record SaidAccount : Type 0 where
+pub record AccountValues : Type 0 where
   pub name : List ℕ
   pub password : List ℕ
   pub version : ScramVersion
@@ -76,7 +76,7 @@ pub record SaidAccount : Type 0 where
   pub count : ℕ
 
 -- a user's account by a mechanism, with the salt that stands at the mechanism's place
-unfoldable pub account_in : Data → Data → Data → Option SaidAccount
+unfoldable pub account_in : Data → Data → Data → Option AccountValues
 account_in user mechanism salt =
     after_part (text_under (codes "name") user) λ name.
     after_part (text_under (codes "password") user) λ password.
@@ -86,7 +86,7 @@ account_in user mechanism salt =
     Some (record { name = name; password = password; version = version; salt = bytes; count = count })
 
 -- a user's accounts by mechanisms, one each, with as many salts
-unfoldable pub accounts_by : Data → Items → Items → Option (List SaidAccount)
+unfoldable pub accounts_by : Data → Items → Items → Option (List AccountValues)
 accounts_by user no_items no_items = Some []
 accounts_by user no_items (item salt salts) = None
 accounts_by user (item mechanism mechanisms) no_items = None
@@ -96,14 +96,14 @@ accounts_by user (item mechanism mechanisms) (item salt salts) =
     Some (account ∷ others)
 
 -- a user's accounts, in the order of its mechanisms
-unfoldable pub accounts_of_user : Data → Option (List SaidAccount)
+unfoldable pub accounts_of_user : Data → Option (List AccountValues)
 accounts_of_user user =
     after_part (items_in (codes "mechanisms") user) λ mechanisms.
     after_part (items_in (codes "salts") user) λ salts.
     accounts_by user mechanisms salts
 
 -- the accounts of users, in their order
-unfoldable pub accounts_of : Items → Option (List SaidAccount)
+unfoldable pub accounts_of : Items → Option (List AccountValues)
 accounts_of no_items = Some []
 accounts_of (item user users) =
     after_part (accounts_of_user user) λ accounts.
@@ -112,12 +112,12 @@ accounts_of (item user users) =
 
 -- ---- the settings
 
-pub record SaidSettings : Type 0 where
-  pub accounts : List SaidAccount
+pub record ServeSettingsValues : Type 0 where
+  pub accounts : List AccountValues
   pub suffix : List ℕ
 
 -- the settings that a value says
-unfoldable pub serve_settings_in : Data → Option SaidSettings
+unfoldable pub serve_settings_in : Data → Option ServeSettingsValues
 serve_settings_in d =
     after_part (suffix_in d) λ suffix.
     after_part (items_in (codes "users") d) λ users.
@@ -129,31 +129,31 @@ abbrev pub json_in : List ℕ → Option Data
 json_in text = if is_utf8 text then read text else None
 
 -- The settings that a text says.
-unfoldable pub settings_said : List ℕ → Option SaidSettings
-settings_said text =
+unfoldable pub settings_meant : List ℕ → Option ServeSettingsValues
+settings_meant text =
     after_part (json_in text) λ d.
     serve_settings_in d
 
 -- ---- what a reader answers
 
 -- an account and settings, as a text says them
-abbrev pub as_said : Account → SaidAccount
-as_said account = record { name = account.name; password = account.password; version = account.version; salt = account.salt; count = account.count }
+abbrev pub account_values : Account → AccountValues
+account_values account = record { name = account.name; password = account.password; version = account.version; salt = account.salt; count = account.count }
 
-abbrev pub settings_as_said : ServeSettings → SaidSettings
-settings_as_said settings = record { accounts = map as_said settings.accounts.items; suffix = settings.suffix }
+abbrev pub settings_values : ServeSettings → ServeSettingsValues
+settings_values settings = record { accounts = map account_values settings.accounts.items; suffix = settings.suffix }
 
 -- accounts that have those that are said at their end
-abbrev pub HaveAtEnd : Option (List SaidAccount) → List Account → List Account → Type 0
+abbrev pub HaveAtEnd : Option (List AccountValues) → List Account → List Account → Type 0
 HaveAtEnd None old new = ⊥
-HaveAtEnd (Some said) old new = map as_said new ≡ map as_said old ++ said
+HaveAtEnd (Some said) old new = map account_values new ≡ map account_values old ++ said
 
 -- Why it refuses: nothing is said. Want of memory may stand in its place.
-abbrev pub SaysNothing : {B : Type 0} → ServeSettingsError → Option B → Type 0
-SaysNothing OutOfMemory said = ⊤
-SaysNothing BadSettings said = said ≡ None
+abbrev pub HasNoMeaning : {B : Type 0} → ServeSettingsError → Option B → Type 0
+HasNoMeaning OutOfMemory said = ⊤
+HasNoMeaning BadSettings said = said ≡ None
 
 -- it answers exactly what is said
-abbrev pub AnswersSaid : {A B : Type 0} → (A → B) → Result A ServeSettingsError → Option B → Type 0
-AnswersSaid view (Ok x) said = said ≡ Some (view x)
-AnswersSaid view (Err error) said = SaysNothing error said
+abbrev pub AnswersMeaning : {A B : Type 0} → (A → B) → Result A ServeSettingsError → Option B → Type 0
+AnswersMeaning view (Ok x) said = said ≡ Some (view x)
+AnswersMeaning view (Err error) said = HasNoMeaning error said

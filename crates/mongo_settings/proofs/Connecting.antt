@@ -5,17 +5,17 @@ use Rattle.mongo_sasl.specs.declared.credential.Credential.{Credential}
 use Rattle.mongo_scram.specs.Costs.{Ledgers}
 use Rattle.mongo_establish.specs.declared.establisher.EstablishError.{EstablishError}
 use Rattle.mongo_establish.specs.declared.establisher.PooledConnection.{PooledConnection}
-use Rattle.mongo_establish.specs.Asked.{Asked, asked_for}
+use Rattle.mongo_establish.specs.Setup.{Setup, setup_for}
 use Rattle.mongo_establish.specs.Ending.{EndsEstablishment}
 use Rattle.mongo_establish.specs.Options.{options_of_establisher}
 use Rattle.mongo_settings.specs.declared.rehearsal.login.Login.{Login}
-use Rattle.mongo_settings.specs.Login.{asked_by}
+use Rattle.mongo_settings.specs.Login.{setup_by}
 
 -- what it asks for with this credential
-abbrev pub asked_with : Login → Option Credential → Asked
-asked_with login credential = asked_for login.pending (options_of_establisher login.establisher) credential login.inputs.nonces login.ids
+abbrev pub setup_with : Login → Option Credential → Setup
+setup_with login credential = setup_for login.pending (options_of_establisher login.establisher) credential login.inputs.nonces login.ids
 
 pub connect_ended : (login : Login) (credential : Option Credential) (old new : State) (after : ℤ) (first last : Ledgers) (r : Result PooledConnection EstablishError) → credential ≡ login.credential
-    → EndsEstablishment (asked_with login credential) old new after first last r → EndsEstablishment (asked_by login) old new after first last r
-unfolding asked_by
-connect_ended login credential old new after first last r same ends = subst (λ x. EndsEstablishment (asked_with login x) old new after first last r) same ends
+    → EndsEstablishment (setup_with login credential) old new after first last r → EndsEstablishment (setup_by login) old new after first last r
+unfolding setup_by
+connect_ended login credential old new after first last r same ends = subst (λ x. EndsEstablishment (setup_with login x) old new after first last r) same ends

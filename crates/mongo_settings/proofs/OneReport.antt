@@ -11,7 +11,7 @@ use Rattle.mongo_settings.specs.declared.settings.Settings.{Settings}
 use Rattle.mongo_settings.specs.declared.rehearsal.Rehearsal.{Rehearsal}
 use Rattle.mongo_settings.specs.declared.rehearsal.RehearsalStatus.TheVariants.{Accepted, Refused}
 use Rattle.mongo_settings.specs.Report.{CountsItself, front_length, sent_lines, read_count_line, accepted_lines, refused_lines}
-use Rattle.mongo_settings.specs.Outcome.{asked_of, AcceptedConnection, IsAcceptance, Outcome, accepted, refused, IsOutcome, WritesOutcome, taken_by, status_of, LeadsToAcceptance, IsRefused}
+use Rattle.mongo_settings.specs.Outcome.{setup_of, AcceptedConnection, IsAcceptance, Outcome, accepted, refused, IsOutcome, WritesOutcome, taken_by, status_of, LeadsToAcceptance, IsRefused}
 use Rattle.mongo_settings.specs.Rehearsal.{outcome_lines, IsReport, IsRehearsal}
 use Rattle.mongo_settings.proofs.Frames.{no_frames, next_frame, front_length-front}
 
@@ -31,25 +31,25 @@ record SameOutcome (settings : Settings) (outcome other : Outcome) (bytes more :
   count : length (taken_by outcome) ≡ length (taken_by other)
   sent : bytes ≡ more
 
-abbrev script_of : (settings : Settings) (acceptance : AcceptedConnection) (bytes : List ℕ) → IsAcceptance settings acceptance → IsWritten (asked_of settings) acceptance.script bytes → LeadsToAcceptance settings
+abbrev script_of : (settings : Settings) (acceptance : AcceptedConnection) (bytes : List ℕ) → IsAcceptance settings acceptance → IsWritten (setup_of settings) acceptance.script bytes → LeadsToAcceptance settings
 script_of settings acceptance bytes is written = record { script = acceptance.script; is_script = is.is_script; sent = bytes; is_written = written; taken = acceptance.taken; rest = acceptance.unread; joined = is.joined; is_taken = is.is_taken }
 
 same_outcome : (settings : Settings) (outcome other : Outcome) (bytes more : List ℕ) → IsOutcome settings outcome → IsOutcome settings other → WritesOutcome settings outcome bytes → WritesOutcome settings other more → SameOutcome settings outcome other bytes more
 same_outcome settings (accepted a) (accepted b) bytes more p q w v =
-    let same = one_script (asked_of settings) settings.replies (script_of settings a bytes p w) (script_of settings b more q v) in
+    let same = one_script (setup_of settings) settings.replies (script_of settings a bytes p w) (script_of settings b more q v) in
     record {
-      lines = ap (λ g. accepted_lines g.description (generation_of (asked_of settings).pending.generation g.description) g.connection_id) same.greeting;
+      lines = ap (λ g. accepted_lines g.description (generation_of (setup_of settings).pending.generation g.description) g.connection_id) same.greeting;
       count = ap length same.taken;
       sent = same.sent;
     }
-same_outcome settings (accepted a) (refused r) bytes more p q w v = absurd (script_unrefused (asked_of settings) settings.replies r.phase r (script_of settings a bytes p w) q)
-same_outcome settings (refused r) (accepted a) bytes more p q w v = absurd (script_unrefused (asked_of settings) settings.replies r.phase r (script_of settings a more q v) p)
+same_outcome settings (accepted a) (refused r) bytes more p q w v = absurd (script_unrefused (setup_of settings) settings.replies r.phase r (script_of settings a bytes p w) q)
+same_outcome settings (refused r) (accepted a) bytes more p q w v = absurd (script_unrefused (setup_of settings) settings.replies r.phase r (script_of settings a more q v) p)
 same_outcome settings (refused r) (refused s) bytes more p q w v =
-    let same = one_refusal (asked_of settings) settings.replies r.phase s.phase r s p q in
+    let same = one_refusal (setup_of settings) settings.replies r.phase s.phase r s p q in
     record {
       lines = ap (λ phase. refused_lines phase r.kind) same.0 ∙ ap (λ kind. refused_lines s.phase kind) same.1.kind;
       count = ap length same.1.taken;
-      sent = one_said s.commands (asked_of settings).first_id bytes more (subst (λ commands. IsSaid commands (asked_of settings).first_id bytes) same.1.commands w) v;
+      sent = one_said s.commands (setup_of settings).first_id bytes more (subst (λ commands. IsSaid commands (setup_of settings).first_id bytes) same.1.commands w) v;
     }
 
 pub one_report : (settings : Settings) (text other : List ℕ) → IsReport settings text → IsReport settings other → text ≡ other
@@ -69,8 +69,8 @@ only_report settings (Err e) h = tt
 -- reply bytes that begin with a script's come out accepted, and those that lead to a refusal refused
 pub accepted_status : (settings : Settings) (outcome : Outcome) → LeadsToAcceptance settings → IsOutcome settings outcome → status_of outcome ≡ Accepted
 accepted_status settings (accepted a) script is = refl
-accepted_status settings (refused r) script is = absurd (script_unrefused (asked_of settings) settings.replies r.phase r script is)
+accepted_status settings (refused r) script is = absurd (script_unrefused (setup_of settings) settings.replies r.phase r script is)
 
 pub refused_status : (settings : Settings) (outcome : Outcome) (bytes : List ℕ) → IsRefused settings → IsOutcome settings outcome → WritesOutcome settings outcome bytes → status_of outcome ≡ Refused
-refused_status settings (accepted a) bytes r is w = absurd (script_unrefused (asked_of settings) settings.replies r.refusal.phase r.refusal (script_of settings a bytes is w) r.is_refusal)
+refused_status settings (accepted a) bytes r is w = absurd (script_unrefused (setup_of settings) settings.replies r.refusal.phase r.refusal (script_of settings a bytes is w) r.is_refusal)
 refused_status settings (refused s) bytes r is w = refl

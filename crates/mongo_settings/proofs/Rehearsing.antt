@@ -10,7 +10,7 @@ use Rattle.mongo_scram.specs.Costs.{Ledgers}
 use Rattle.mongo_establish.specs.declared.establisher.EstablishError.{EstablishError}
 use Rattle.mongo_establish.specs.declared.establisher.HandshakePhase.{HandshakePhase}
 use Rattle.mongo_establish.specs.declared.establisher.PooledConnection.{PooledConnection}
-use Rattle.mongo_establish.specs.Asked.{Asked}
+use Rattle.mongo_establish.specs.Setup.{Setup}
 use Rattle.mongo_establish.specs.Established.{Established}
 use Rattle.mongo_establish.specs.Generation.{generation_of}
 use Rattle.mongo_establish.specs.Script.{IsWritten}
@@ -20,7 +20,7 @@ use Rattle.mongo_settings.proofs.Sent.{Framed-from_sent, Framed-from_said}
 use Rattle.mongo_settings.specs.declared.settings.Settings.{Settings}
 use Rattle.mongo_settings.specs.declared.rehearsal.Rehearsal.{Rehearsal}
 use Rattle.mongo_settings.specs.Report.{CountsItself, sent_lines, read_count_line, accepted_lines, refused_lines}
-use Rattle.mongo_settings.specs.Outcome.{asked_of, accepted, refused}
+use Rattle.mongo_settings.specs.Outcome.{setup_of, accepted, refused}
 use Rattle.mongo_settings.specs.Telling.{IsTold, TellsMade, IsReported, TellsRefused, Tells}
 use Rattle.mongo_settings.specs.Rehearsal.{LeftAs}
 use Rattle.mongo_settings.specs.Rounds.{is_after_login}
@@ -78,16 +78,16 @@ pub record Replays (settings : Settings) (ended : Result PooledConnection Establ
 
 -- ---- a connection that was made
 
-pub described : (asked : Asked) (old new : State) (after : ℤ) (first last : Ledgers) (ended : Result PooledConnection EstablishError) → IfOk ended (Established asked old new after first last) → IfOk ended (λ pooled. IsSome pooled.connection.stream_description)
-described asked old new after first last (Ok pooled) made = rw made.connection.description_is refl
-described asked old new after first last (Err refusal) made = tt
+pub described : (setup : Setup) (old new : State) (after : ℤ) (first last : Ledgers) (ended : Result PooledConnection EstablishError) → IfOk ended (Established setup old new after first last) → IfOk ended (λ pooled. IsSome pooled.connection.stream_description)
+described setup old new after first last (Ok pooled) made = rw made.connection.description_is refl
+described setup old new after first last (Err refusal) made = tt
 
 made : (settings : Settings) (old new : State) (after : ℤ) (first last : Ledgers) (pooled : PooledConnection) (output left : List ℕ) (taken : ℕ) (x : Rehearsal)
-    → Established (asked_of settings) old new after first last pooled → Replayed settings.replies output left old new → taken ≡ length settings.replies - length left → TellsMade output taken pooled x → Replays settings (Ok pooled) old new x
+    → Established (setup_of settings) old new after first last pooled → Replayed settings.replies output left old new → taken ≡ length settings.replies - length left → TellsMade output taken pooled x → Replays settings (Ok pooled) old new x
 made settings old new after first last pooled output left taken x e p taken_is tells =
     let s = e.scripted in
     let sent : output ≡ s.sent = appended p.front output s.sent old.written new.written p.before p.written_is s.written in
-    let f = Framed-from_sent _ _ e.script.commands (asked_of settings).first_id s.sent s.is_written in
+    let f = Framed-from_sent _ _ e.script.commands (setup_of settings).first_id s.sent s.is_written in
     let t = s.taken settings.replies p.given in
     let g = e.script.greeting in
     let rest : left ≡ t.rest = same_some left t.rest (sym p.left_is ∙ t.left_is) in
@@ -100,11 +100,11 @@ made settings old new after first last pooled output left taken x e p taken_is t
             is_outcome = record { is_script = s.is_script; joined = t.joined; is_taken = t.is_taken };
             frames = f.frames;
             each_frame = f.each;
-            sent = subst (IsWritten (asked_of settings) e.script) f.joined s.is_written;
+            sent = subst (IsWritten (setup_of settings) e.script) f.joined s.is_written;
             text_is = told_whole output taken _ _ f.frames (tells.text g.description e.connection.description_is) f.each (sent ∙ f.joined)
                 ∙ ap (λ n. sent_lines f.frames ++ (read_count_line n ++ accepted_lines g.description pooled.generation pooled.connection.server_id)) count
                 ∙ ap (λ generation. sent_lines f.frames ++ (read_count_line (length t.taken) ++ accepted_lines g.description generation pooled.connection.server_id)) e.generation
-                ∙ ap (λ i. sent_lines f.frames ++ (read_count_line (length t.taken) ++ accepted_lines g.description (generation_of (asked_of settings).pending.generation g.description) i)) e.connection.server_id;
+                ∙ ap (λ i. sent_lines f.frames ++ (read_count_line (length t.taken) ++ accepted_lines g.description (generation_of (setup_of settings).pending.generation g.description) i)) e.connection.server_id;
           };
           status_is = tells.status;
         };
@@ -120,13 +120,13 @@ made settings old new after first last pooled output left taken x e p taken_is t
 -- ---- a refusal
 
 told_refusal : (settings : Settings) (kind : ErrorKind) (phase : HandshakePhase) (old new : State) (after : ℤ) (output left : List ℕ) (taken : ℕ) (refusal : EstablishError) (x : Rehearsal)
-    → refusal.cause.kind ≡ kind → refusal.handshake_phase ≡ phase → RefusedBy phase (asked_of settings) settings.replies kind old new after
+    → refusal.cause.kind ≡ kind → refusal.handshake_phase ≡ phase → RefusedBy phase (setup_of settings) settings.replies kind old new after
     → Replayed settings.replies output left old new → taken ≡ length settings.replies - length left → TellsRefused output taken refusal x → Replays settings (Err refusal) old new x
 told_refusal settings kind phase old new after output left taken refusal x kind_is phase_is r p taken_is tells =
     let l = r.left_by in
     let first = r.refusal in
     let sent : output ≡ l.sent = appended p.front output l.sent old.written new.written p.before p.written_is l.written in
-    let f = Framed-from_said first.commands (asked_of settings).first_id l.sent l.sent_is in
+    let f = Framed-from_said first.commands (setup_of settings).first_id l.sent l.sent_is in
     let rest : left ≡ first.unread = same_some left first.unread (sym p.left_is ∙ l.left) in
     let count : taken ≡ length first.taken = taken_is ∙ taken_length settings.replies first.taken first.unread left r.joined rest in
     record {
@@ -137,7 +137,7 @@ told_refusal settings kind phase old new after output left taken refusal x kind_
             is_outcome = r.is_refusal;
             frames = f.frames;
             each_frame = f.each;
-            sent = subst (IsSaid first.commands (asked_of settings).first_id) f.joined l.sent_is;
+            sent = subst (IsSaid first.commands (setup_of settings).first_id) f.joined l.sent_is;
             text_is = told_whole output taken _ _ f.frames tells.text f.each (sent ∙ f.joined)
                 ∙ ap (λ n. sent_lines f.frames ++ (read_count_line n ++ refused_lines refusal.handshake_phase refusal.cause.kind)) count
                 ∙ ap (λ p. sent_lines f.frames ++ (read_count_line (length first.taken) ++ refused_lines p refusal.cause.kind)) (phase_is ∙ sym r.phase_is)
@@ -149,15 +149,15 @@ told_refusal settings kind phase old new after output left taken refusal x kind_
       };
       left_as = record {
         written = subst (Appends old.written new.written) f.joined l.written;
-        flushed = flushed_after first.commands (asked_of settings).first_id l.sent (concat f.frames) old new l.sent_is f.joined l.flushed;
+        flushed = flushed_after first.commands (setup_of settings).first_id l.sent (concat f.frames) old new l.sent_is f.joined l.flushed;
         taken = consumed settings.replies first.taken first.unread old.left new.left p.given l.left r.joined;
       };
     }
 
 unmade : (settings : Settings) (old new : State) (after : ℤ) (first last : Ledgers) (refusal : EstablishError) (output left : List ℕ) (taken : ℕ) (x : Rehearsal)
-    → StoppedIn refusal.handshake_phase (asked_of settings) refusal.cause.kind old new after first last → Replayed settings.replies output left old new → taken ≡ length settings.replies - length left → TellsRefused output taken refusal x → Replays settings (Err refusal) old new x
+    → StoppedIn refusal.handshake_phase (setup_of settings) refusal.cause.kind old new after first last → Replayed settings.replies output left old new → taken ≡ length settings.replies - length left → TellsRefused output taken refusal x → Replays settings (Err refusal) old new x
 unmade settings old new after first last refusal output left taken x s p taken_is tells =
-    elim (stopped_refusal refusal.handshake_phase (asked_of settings) refusal.cause.kind old new after first last settings.replies s p.given p.unfailed) [
+    elim (stopped_refusal refusal.handshake_phase (setup_of settings) refusal.cause.kind old new after first last settings.replies s p.given p.unfailed) [
       | inl memory ↦ absurd (subst IsReported memory tells.reported)
       | inr r ↦ told_refusal settings refusal.cause.kind refusal.handshake_phase old new after output left taken refusal x refl refl r p taken_is tells
     ]
@@ -165,9 +165,9 @@ unmade settings old new after first last refusal output left taken x s p taken_i
 -- ---- either
 
 -- however an establishment ended, what is told of it is the report
-pub rehearsed : {E : Type 0} (settings : Settings) (asked : Asked) (old new : State) (after : ℤ) (first last : Ledgers) (output left : List ℕ) (taken : ℕ) (ended : Result PooledConnection EstablishError) (r : Result Rehearsal E)
-    → asked ≡ asked_of settings → IfOk ended (Established asked old new after first last) → IfErr ended (λ e. StoppedIn e.handshake_phase asked e.cause.kind old new after first last)
+pub rehearsed : {E : Type 0} (settings : Settings) (setup : Setup) (old new : State) (after : ℤ) (first last : Ledgers) (output left : List ℕ) (taken : ℕ) (ended : Result PooledConnection EstablishError) (r : Result Rehearsal E)
+    → setup ≡ setup_of settings → IfOk ended (Established setup old new after first last) → IfErr ended (λ e. StoppedIn e.handshake_phase setup e.cause.kind old new after first last)
     → Replayed settings.replies output left old new → taken ≡ length settings.replies - length left → IfOk r (Tells output taken ended) → IfOk r (Replays settings ended old new)
-rehearsed settings asked old new after first last output left taken (Ok pooled) (Ok x) same m s p taken_is tells = made settings old new after first last pooled output left taken x (subst (λ a. Established a old new after first last pooled) same m) p taken_is tells
-rehearsed settings asked old new after first last output left taken (Err refusal) (Ok x) same m s p taken_is tells = unmade settings old new after first last refusal output left taken x (subst (λ a. StoppedIn refusal.handshake_phase a refusal.cause.kind old new after first last) same s) p taken_is tells
-rehearsed settings asked old new after first last output left taken ended (Err error) same m s p taken_is tells = tt
+rehearsed settings setup old new after first last output left taken (Ok pooled) (Ok x) same m s p taken_is tells = made settings old new after first last pooled output left taken x (subst (λ a. Established a old new after first last pooled) same m) p taken_is tells
+rehearsed settings setup old new after first last output left taken (Err refusal) (Ok x) same m s p taken_is tells = unmade settings old new after first last refusal output left taken x (subst (λ a. StoppedIn refusal.handshake_phase a refusal.cause.kind old new after first last) same s) p taken_is tells
+rehearsed settings setup old new after first last output left taken ended (Err error) same m s p taken_is tells = tt

@@ -16,7 +16,7 @@ use Rattle.mongo_establish.specs.declared.establisher.EstablishError.{EstablishE
 use Rattle.mongo_establish.specs.declared.establisher.HandshakePhase.{HandshakePhase}
 use Rattle.mongo_establish.specs.declared.establisher.HandshakePhase.TheVariants.{PreHello, PostHello}
 use Rattle.mongo_establish.specs.declared.establisher.PooledConnection.{PooledConnection}
-use Rattle.mongo_establish.specs.Asked.{Asked}
+use Rattle.mongo_establish.specs.Setup.{Setup}
 use Rattle.mongo_establish.specs.Established.{Established}
 use Rattle.mongo_establish.specs.Stopped.{StoppedIn}
 
@@ -74,9 +74,9 @@ stopped plan kind old new before after is =
 
 -- ---- an establishment
 
-stopped_in : (phase : HandshakePhase) (asked : Asked) (kind : ErrorKind) (old new : State) (after : ℤ) (first last : Ledgers) → StoppedIn phase asked kind old new after first last → TakesSome old.left new.left
-stopped_in (PreHello generation) asked kind old new after first last is = stopped _ kind old new _ after is.1.1
-stopped_in (PostHello generation) asked kind old new after first last is =
+stopped_in : (phase : HandshakePhase) (setup : Setup) (kind : ErrorKind) (old new : State) (after : ℤ) (first last : Ledgers) → StoppedIn phase setup kind old new after first last → TakesSome old.left new.left
+stopped_in (PreHello generation) setup kind old new after first last is = stopped _ kind old new _ after is.1.1
+stopped_in (PostHello generation) setup kind old new after first last is =
     more_taken old.left is.middle.left new.left (reached _ is.greeting old is.middle _ _ is.hello)
     (elim is.stopped [
       | inl refused ↦ stopped _ kind is.middle new _ after refused.login.1
@@ -87,12 +87,12 @@ shorter : (bytes left : List ℕ) → TakesSome (Some bytes) (Some left) → len
 shorter bytes left is = let parts : length bytes ≡ length is.0 + length left = ap length is.1 ∙ length-append is.0 left in omega (arith, parts)
 
 -- what is left isn't longer than what was left before
-pub left_within : (asked : Asked) (old new : State) (after : ℤ) (first last : Ledgers) (bytes left : List ℕ) (ended : Result PooledConnection EstablishError) → IfOk ended (Established asked old new after first last)
-    → IfErr ended (λ e. StoppedIn e.handshake_phase asked e.cause.kind old new after first last) → old.left ≡ Some bytes → new.left ≡ Some left → length left ≤ length bytes
-left_within asked old new after first last bytes left (Ok pooled) made refused was is =
+pub left_within : (setup : Setup) (old new : State) (after : ℤ) (first last : Ledgers) (bytes left : List ℕ) (ended : Result PooledConnection EstablishError) → IfOk ended (Established setup old new after first last)
+    → IfErr ended (λ e. StoppedIn e.handshake_phase setup e.cause.kind old new after first last) → old.left ≡ Some bytes → new.left ≡ Some left → length left ≤ length bytes
+left_within setup old new after first last bytes left (Ok pooled) made refused was is =
     let replies = made.scripted.taken bytes was in
     shorter bytes left (replies.taken, replies.joined ∙ ap (λ rest. replies.taken ++ rest) (same_some replies.rest left (sym replies.left_is ∙ is))) where
       same_some : (a b : List ℕ) → Some a ≡ Some b → a ≡ b
       same_some a b e = cc
-left_within asked old new after first last bytes left (Err e) made refused was is =
-    shorter bytes left (subst (λ left. TakesSome (Some bytes) left) is (subst (λ o. TakesSome o new.left) was (stopped_in e.handshake_phase asked e.cause.kind old new after first last refused)))
+left_within setup old new after first last bytes left (Err e) made refused was is =
+    shorter bytes left (subst (λ left. TakesSome (Some bytes) left) is (subst (λ o. TakesSome o new.left) was (stopped_in e.handshake_phase setup e.cause.kind old new after first last refused)))

@@ -8,11 +8,11 @@ use Rattle.mongo_scram.specs.Cache.{entries_of}
 use Rattle.mongo_scram.specs.Costs.{Ledgers, Derives}
 use Rattle.mongo_establish.specs.declared.establisher.EstablishError.{EstablishError}
 use Rattle.mongo_establish.specs.declared.establisher.PooledConnection.{PooledConnection}
-use Rattle.mongo_establish.specs.Asked.{Asked}
+use Rattle.mongo_establish.specs.Setup.{Setup}
 use Rattle.mongo_establish.specs.KeyCosts.{TakesAsLed, CostsOver, CostsAsLed}
 use Rattle.mongo_settings.specs.declared.settings.Settings.{Settings}
 use Rattle.mongo_settings.specs.declared.rehearsal.Rehearsal.{Rehearsal}
-use Rattle.mongo_settings.specs.Outcome.{asked_of}
+use Rattle.mongo_settings.specs.Outcome.{setup_of}
 use Rattle.mongo_settings.specs.Rehearsal.{IsRehearsal}
 use Rattle.mongo_settings.specs.Rounds.{is_after_login, logs_in, rounds_alone}
 use Rattle.mongo_settings.specs.Takes.{TakesBy, was_accepted, TakesLedgers, IsTaking}
@@ -25,10 +25,10 @@ before_login : (kind : ErrorKind) → (kind ≡ IncompatibleServer → ⊥) → 
 before_login IncompatibleServer other = absurd (other refl)
 before_login kind other = refl
 
-took : (settings : Settings) (accepted : Bool) (first last : Ledgers) → TakesAsLed (asked_of settings) settings.replies (λ key. TakesBy accepted key first last) → TakesLedgers settings accepted first last
+took : (settings : Settings) (accepted : Bool) (first last : Ledgers) → TakesAsLed (setup_of settings) settings.replies (λ key. TakesBy accepted key first last) → TakesLedgers settings accepted first last
 took settings accepted first last t = record { key = t.key; key_is = t.leads; taken = t.taken }
 
-takes_over : (settings : Settings) (first last : Ledgers) (ended : Result PooledConnection EstablishError) → CostsOver ended (asked_of settings) settings.replies first last → ((e : EstablishError) → ended ≡ Err e → IsReported e.cause.kind) → TakesLedgers settings (was_accepted ended) first last
+takes_over : (settings : Settings) (first last : Ledgers) (ended : Result PooledConnection EstablishError) → CostsOver ended (setup_of settings) settings.replies first last → ((e : EstablishError) → ended ≡ Err e → IsReported e.cause.kind) → TakesLedgers settings (was_accepted ended) first last
 takes_over settings first last (Ok pooled) costs reported = took settings true first last costs
 takes_over settings first last (Err e) (inl memory) reported = absurd (subst IsReported memory (reported e refl))
 takes_over settings first last (Err e) (inr (inl unnamed)) reported = subst (λ b. TakesLedgers settings b first last) (sym (ap is_after_login unnamed.kind_is)) (took settings true first last unnamed.led)
@@ -42,16 +42,16 @@ told_cause written count (Err refusal) x tells e is = subst (λ (r : Result Pool
   caused (Err error) = IsReported error.cause.kind
 
 -- the rehearsal and what it takes
-pub taking : {E : Type 0} (settings : Settings) (asked : Asked) (old new : State) (first last : Ledgers) (output left : List ℕ) (count : ℕ) (ended : Result PooledConnection EstablishError) (r : Result Rehearsal E)
-    → asked ≡ asked_of settings → CostsAsLed ended asked old new first last → Replayed settings.replies output left old new
+pub taking : {E : Type 0} (settings : Settings) (setup : Setup) (old new : State) (first last : Ledgers) (output left : List ℕ) (count : ℕ) (ended : Result PooledConnection EstablishError) (r : Result Rehearsal E)
+    → setup ≡ setup_of settings → CostsAsLed ended setup old new first last → Replayed settings.replies output left old new
     → IfOk r (Tells output count ended) → IfOk r (Replays settings ended old new) → IfOk r (IsTaking settings first last)
-taking settings asked old new first last output left count ended (Ok x) same costs p tells is =
+taking settings setup old new first last output left count ended (Ok x) same costs p tells is =
     let over = (subst (λ a. CostsAsLed ended a old new first last) same costs).over settings.replies p.given p.unfailed in
     record {
       rehearsal_is = is.rehearses.rehearsal_is;
       takes = subst (λ b. TakesLedgers settings b first last) (sym is.rehearses.logs_in_is) (takes_over settings first last ended over (told_cause output count ended x tells));
     }
-taking settings asked old new first last output left count ended (Err error) same costs p tells is = tt
+taking settings setup old new first last output left count ended (Err error) same costs p tells is = tt
 
 -- the rehearsal alone
 pub alone : {E : Type 0} (settings : Settings) (first last : Ledgers) (r : Result Rehearsal E) → IfOk r (IsTaking settings first last) → IfOk r (IsRehearsal settings)
@@ -75,7 +75,7 @@ counted settings accepted first last none t = record { key = t.key; key_is = t.k
 
 -- over the reply bytes an establishment that is told derived the key that they lead to
 pub counted_over : (settings : Settings) (first last : Ledgers) (ended : Result PooledConnection EstablishError) (written : List ℕ) (count : ℕ) (x : Rehearsal)
-    → entries_of first.cache ≡ [] → CostsOver ended (asked_of settings) settings.replies first last → Tells written count ended x → CountsKey settings (steps_of first.steps last.steps)
+    → entries_of first.cache ≡ [] → CostsOver ended (setup_of settings) settings.replies first last → Tells written count ended x → CountsKey settings (steps_of first.steps last.steps)
 counted_over settings first last ended written count x none over tells =
     counted settings (was_accepted ended) first last none (takes_over settings first last ended over (told_cause written count ended x tells))
 

@@ -7,13 +7,13 @@ use Rattle.mongo_establish.specs.Generation.{generation_of}
 use Rattle.mongo_settings.specs.declared.settings.Settings.{Settings}
 use Rattle.mongo_settings.specs.declared.rehearsal.Rehearsal.{Rehearsal}
 use Rattle.mongo_settings.specs.Report.{CountsItself, sent_lines, read_count_line, accepted_lines, refused_lines}
-use Rattle.mongo_settings.specs.Outcome.{asked_of, Outcome, accepted, refused, IsOutcome, WritesOutcome, taken_by, status_of}
+use Rattle.mongo_settings.specs.Outcome.{setup_of, Outcome, accepted, refused, IsOutcome, WritesOutcome, taken_by, status_of}
 
 -- the lines that say how it came out
 abbrev pub outcome_lines : Settings → Outcome → List ℕ
 outcome_lines settings (accepted acceptance) =
     let greeting = acceptance.script.greeting in
-    accepted_lines greeting.description (generation_of (asked_of settings).pending.generation greeting.description) greeting.connection_id
+    accepted_lines greeting.description (generation_of (setup_of settings).pending.generation greeting.description) greeting.connection_id
 outcome_lines settings (refused refusal) = refused_lines refusal.phase refusal.kind
 
 -- the frames that were written, how many reply bytes were taken, and how it came out

@@ -6,11 +6,11 @@ use Rattle.mongo_wire.specs.declared.error.ErrorKind.TheVariants.{IncompatibleSe
 use Rattle.mongo_scram.specs.declared.cache.SaltedKey.{SaltedKey}
 use Rattle.mongo_establish.specs.Derivation.{LeadsToKey}
 use Rattle.mongo_settings.specs.declared.settings.Settings.{Settings}
-use Rattle.mongo_settings.specs.Outcome.{asked_of, Outcome, accepted, refused}
+use Rattle.mongo_settings.specs.Outcome.{setup_of, Outcome, accepted, refused}
 
 -- the key that the reply bytes lead the login to derive from, or that it comes to none
 abbrev pub DerivesFrom : Settings → Option SaltedKey → Type 0
-DerivesFrom settings key = LeadsToKey (asked_of settings) settings.replies key
+DerivesFrom settings key = LeadsToKey (setup_of settings) settings.replies key
 
 -- the rounds that a login with this key derives, where these keys were accepted before
 abbrev pub DerivedKey : List SaltedKey → Option SaltedKey → ℕ → Type 0

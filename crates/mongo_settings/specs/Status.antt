@@ -30,7 +30,7 @@ EndsAs status result = (result ≡ status) ⊎ (result ≡ NoMemory)
 
 -- How a text is judged decides how a run ends where nothing fails: one that asks for something does by how that comes out.
 abbrev pub JudgementDecides : {A : Type 0} → (A → RehearsalStatus → Type 0) → Result A SettingsError → Status → Type 0
-JudgementDecides ComesOut (Ok asked) result = (status : RehearsalStatus) → ComesOut asked status → EndsAs (status_after status) result
+JudgementDecides ComesOut (Ok setup) result = (status : RehearsalStatus) → ComesOut setup status → EndsAs (status_after status) result
 JudgementDecides ComesOut (Err Bad) result = EndsAs BadSettings result
 JudgementDecides ComesOut (Err Unbuilt) result = EndsAs NotBuilt result
 JudgementDecides ComesOut (Err OutOfMemory) result = ⊤

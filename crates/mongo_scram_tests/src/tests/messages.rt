@@ -25,7 +25,7 @@ enum Prepared {
 
 /// A whole conversation.
 #[derive(Clone, Copy)]
-struct Exchange<'a> {
+struct Authentication<'a> {
     version: ScramVersion,
     prepared: Prepared,
     username: &'a str,
@@ -49,7 +49,7 @@ sha256 mechanism a=b,c pw nonce n,,n=a=3Db=2Cc,r=nonce r=nonceserver,s=W22ZaJ0SN
 sha1 mechanism user pencil AQEBAQEBAQEBAQEBAQEBAQEBAQEBAQEBAQEBAQEBAQE= n,,n=user,r=AQEBAQEBAQEBAQEBAQEBAQEBAQEBAQEBAQEBAQEBAQE= r=AQEBAQEBAQEBAQEBAQEBAQEBAQEBAQEBAQEBAQEBAQE=srv,s=W22ZaJ0SNY7soEsUEjb6gQ==,i=4096 c=biws,r=AQEBAQEBAQEBAQEBAQEBAQEBAQEBAQEBAQEBAQEBAQE=srv,p=BFzm0muAQtwQOjURMMJFxMR5D7Q= v=aUCtyleaGTvV5HNlYplfkdpArKI=";
 
 // The conversation of these words.
-fn exchange_of<'a>(row: &'a str) -> Exchange<'a> {
+fn authentication_of<'a>(row: &'a str) -> Authentication<'a> {
     let mut words = row.split_whitespace();
     let version = match words.next() {
         Some("sha1") => ScramVersion::Sha1,
@@ -59,7 +59,7 @@ fn exchange_of<'a>(row: &'a str) -> Exchange<'a> {
         Some("plain") => Prepared::Plain,
         _ => Prepared::Mechanism,
     };
-    Exchange {
+    Authentication {
         version,
         prepared,
         username: words.next().unwrap_or(""),
@@ -214,7 +214,7 @@ fn client_first(alloc: Global, username: &str, nonce: &str) -> Result<ClientFirs
 fn salted_with<G: Ledger>(
     alloc: Global,
     blank: Blank,
-    row: &Exchange<'_>,
+    row: &Authentication<'_>,
     first: &ServerFirst,
 ) -> Result<Tag, Error>
     requires name { blank.name ≡ G.name }
@@ -238,7 +238,7 @@ fn salted_with<G: Ledger>(
 }
 
 // The same; None where the count is 0 or the password is refused.
-fn salted_of(alloc: Global, row: &Exchange<'_>, first: &ServerFirst) -> Option<Tag> {
+fn salted_of(alloc: Global, row: &Authentication<'_>, first: &ServerFirst) -> Option<Tag> {
     if first.i == 0 {
         return None;
     }
@@ -247,7 +247,7 @@ fn salted_of(alloc: Global, row: &Exchange<'_>, first: &ServerFirst) -> Option<T
 
 fn closed(
     alloc: Global,
-    row: &Exchange<'_>,
+    row: &Authentication<'_>,
     salted: &Tag,
     open: ClientFirst,
     first: &ServerFirst,
@@ -260,7 +260,7 @@ fn closed(
 type Held = (Tag, ClientSide);
 
 // A row's conversation up to the client's last message.
-fn conversation_of(alloc: Global, row: &Exchange<'_>) -> Result<Held, Fail> {
+fn conversation_of(alloc: Global, row: &Authentication<'_>) -> Result<Held, Fail> {
     let first = given(server_first(alloc, 1, false, row.server_first.as_bytes()))?;
     conversation_after(alloc, row, &first)
 }
@@ -268,7 +268,7 @@ fn conversation_of(alloc: Global, row: &Exchange<'_>) -> Result<Held, Fail> {
 // The same where the server's first message was read.
 fn conversation_after(
     alloc: Global,
-    row: &Exchange<'_>,
+    row: &Authentication<'_>,
     first: &ServerFirst,
 ) -> Result<Held, Fail> {
     let Some(salted) = salted_of(alloc, row, first) else {
@@ -287,7 +287,7 @@ fn is_encoded(alloc: Global, tag: &Tag, text: Option<&str>) -> bool {
 }
 
 // Whether the keys sign what the messages of the row hold.
-fn signs_so(alloc: Global, row: &Exchange<'_>, keys: &Keys, transcript: &[u8]) -> bool {
+fn signs_so(alloc: Global, row: &Authentication<'_>, keys: &Keys, transcript: &[u8]) -> bool {
     let proof = match row.close.split_once(",p=") {
         Some((_, proof)) => Some(proof),
         None => None,
@@ -325,9 +325,9 @@ fn final_fault(
 
 // Fails where a row's conversation isn't as it stands.
 fn check_conversation(alloc: Global, row: &str) -> Result<(), Fail> {
-    let exchange = exchange_of(row);
-    let held = conversation_of(alloc, &exchange)?;
-    let stands = if is_as_it_stands(alloc, &exchange, &held)? {
+    let authentication = authentication_of(row);
+    let held = conversation_of(alloc, &authentication)?;
+    let stands = if is_as_it_stands(alloc, &authentication, &held)? {
         "so"
     } else {
         "otherwise"
@@ -348,7 +348,7 @@ fn copy_closes(alloc: Global, close: &ClientFinal, message: &str) -> Result<bool
 }
 
 // Whether the messages are the row's, the client's last in its copy too, and the server's last is taken.
-fn is_as_it_stands(alloc: Global, row: &Exchange<'_>, held: &Held) -> Result<bool, Fail> {
+fn is_as_it_stands(alloc: Global, row: &Authentication<'_>, held: &Held) -> Result<bool, Fail> {
     let (salted, conversation) = held;
     let transcript = conversation.close.auth_message().as_bytes();
     let stands = conversation.open.message() == row.open
@@ -403,7 +403,7 @@ fn check_held(alloc: Global, held: &Held) -> Result<(), Fail> {
 #[test]
 fn server_final_messages(rt: HostRuntime) -> Result<(), Fail> {
     let first = CONVERSATIONS.lines().next().unwrap_or("");
-    let held = conversation_of(rt.alloc(), &exchange_of(first))?;
+    let held = conversation_of(rt.alloc(), &authentication_of(first))?;
     check_held(rt.alloc(), &held)
 }
 

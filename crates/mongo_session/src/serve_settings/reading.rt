@@ -13,7 +13,7 @@ ghost use Rattle.std.specs.Prelude.{◌≡◌, ◌≤◌, [], ◌∷◌, ◌++�
 ghost use Rattle.serde_json.specs.View.{view, items_view};
 ghost use Rattle.mongo_scram.specs.Validity.{least_count};
 ghost use Rattle.mongo_server.specs.ClientMessages.{IsNonce};
-ghost use Rattle.mongo_session.specs.ServeSettings.{text_under, items_in, count_in, scram_version_in, salt_in, is_suffix, suffix_in, json_in, as_said, account_in, accounts_of_user, accounts_of, settings_as_said, settings_said, HaveAtEnd, AnswersSaid, SaysNothing};
+ghost use Rattle.mongo_session.specs.ServeSettings.{text_under, items_in, count_in, scram_version_in, salt_in, is_suffix, suffix_in, json_in, account_values, account_in, accounts_of_user, accounts_of, settings_values, settings_meant, HaveAtEnd, AnswersMeaning, HasNoMeaning};
 ghost use Rattle.mongo_session.specs.declared.serve_settings.reading.ServeSettingsError.TheVariants.{OutOfMemory};
 
 use super::{Account, ServeSettings};
@@ -56,9 +56,9 @@ impl<T: Drop> From<AllocFailed<T>> for ServeSettingsError {
 /// kind, a user has not as many salts as mechanisms, a mechanism is neither SCRAM-SHA-1 nor SCRAM-SHA-256, a salt isn't hex, a count
 /// isn't within its bounds, or the nonce is empty or isn't printable. Other keys are passed over. A user without mechanisms has no
 /// account, and its other keys but `salts` aren't read.
-#[tactic(auto, unfolding(crate::specs::ServeSettings::settings_said, crate::specs::ServeSettings::serve_settings_in))]
+#[tactic(auto, unfolding(crate::specs::ServeSettings::settings_meant, crate::specs::ServeSettings::serve_settings_in))]
 pub fn serve_settings_of(alloc: Global, text: &[u8]) -> Result<ServeSettings, ServeSettingsError>
-    ensures { AnswersSaid settings_as_said result (settings_said text.now) }
+    ensures { AnswersMeaning settings_values result (settings_meant text.now) }
 {
     let value = json_in(alloc, text)?;
     let suffix = suffix_in(&value)?;
@@ -72,7 +72,7 @@ pub fn serve_settings_of(alloc: Global, text: &[u8]) -> Result<ServeSettings, Se
 
 // What is put behind a client's nonce.
 fn suffix_in(value: &Value) -> Result<&str, ServeSettingsError>
-    ensures said { AnswersSaid (λ suffix. suffix.now) result (suffix_in (view value.now)) }
+    ensures said { AnswersMeaning (λ suffix. suffix.now) result (suffix_in (view value.now)) }
     ensures printable { IfOk result (λ suffix. IsNonce suffix.now) }
 {
     let nonce = text_under(value, "nonce")?;
@@ -93,7 +93,7 @@ fn is_suffix(nonce: &str) -> bool
 
 // The accounts of users, one after another.
 fn accounts_of(alloc: Global, users: &[Value]) -> Result<Vec<Account>, ServeSettingsError>
-    ensures { AnswersSaid (λ accounts. map as_said accounts.items) result (accounts_of (items_view users.now)) }
+    ensures { AnswersMeaning (λ accounts. map account_values accounts.items) result (accounts_of (items_view users.now)) }
 {
     let mut accounts = Vec::new(alloc);
     'users: for user in users {
@@ -110,7 +110,7 @@ fn push_accounts(
     user: &Value,
 ) -> Result<(), ServeSettingsError>
     ensures added { OnOk result (HaveAtEnd (accounts_of_user (view user.now)) accounts.old.items accounts.new.items) }
-    ensures refused { IfErr result (λ error. SaysNothing error (accounts_of_user (view user.now))) }
+    ensures refused { IfErr result (λ error. HasNoMeaning error (accounts_of_user (view user.now))) }
 {
     let mechanisms = items_in(user, "mechanisms")?;
     let salts = items_in(user, "salts")?;
@@ -140,7 +140,7 @@ fn account_of(
     mechanism: &Value,
     salt: &Value,
 ) -> Result<Account, ServeSettingsError>
-    ensures { AnswersSaid as_said result (account_in (view user.now) (view mechanism.now) (view salt.now)) }
+    ensures { AnswersMeaning account_values result (account_in (view user.now) (view mechanism.now) (view salt.now)) }
 {
     let name = text_under(user, "name")?;
     let password = text_under(user, "password")?;
@@ -167,7 +167,7 @@ fn text_copy(alloc: Global, text: &str) -> Result<Text, ServeSettingsError>
 }
 
 fn json_in(alloc: Global, text: &[u8]) -> Result<Value, ServeSettingsError>
-    ensures { AnswersSaid view result (json_in text.now) }
+    ensures { AnswersMeaning view result (json_in text.now) }
 {
     match Value::from_slice(alloc, text) {
         Ok(value) => Ok(value),
@@ -180,7 +180,7 @@ fn json_in(alloc: Global, text: &[u8]) -> Result<Value, ServeSettingsError>
 
 // The text of a key.
 fn text_under<'a>(value: &'a Value, key: &str) -> Result<&'a str, ServeSettingsError>
-    ensures { AnswersSaid (λ text. text.now) result (text_under key.now (view value.now)) }
+    ensures { AnswersMeaning (λ text. text.now) result (text_under key.now (view value.now)) }
 {
     match value.get(key) {
         Some(member) => match member.as_str() {
@@ -193,7 +193,7 @@ fn text_under<'a>(value: &'a Value, key: &str) -> Result<&'a str, ServeSettingsE
 
 // The array of a key.
 fn items_in<'a>(value: &'a Value, key: &str) -> Result<&'a [Value], ServeSettingsError>
-    ensures { AnswersSaid (λ items. items_view items.now) result (items_in key.now (view value.now)) }
+    ensures { AnswersMeaning (λ items. items_view items.now) result (items_in key.now (view value.now)) }
 {
     match value.get(key) {
         Some(member) => match member.as_array() {
@@ -222,7 +222,7 @@ fn count_in(user: &Value) -> Option<u32>
 
 // The mechanism of this name.
 fn version_of(name: &Value) -> Result<ScramVersion, ServeSettingsError>
-    ensures { AnswersSaid (λ version. version) result (scram_version_in (view name.now)) }
+    ensures { AnswersMeaning (λ version. version) result (scram_version_in (view name.now)) }
 {
     match name.as_str() {
         Some(name) => match version_named(name) {
@@ -235,7 +235,7 @@ fn version_of(name: &Value) -> Result<ScramVersion, ServeSettingsError>
 
 // The bytes of a text of hex.
 fn salt_of(alloc: Global, salt: &Value) -> Result<Bytes, ServeSettingsError>
-    ensures { AnswersSaid (λ bytes. bytes) result (salt_in (view salt.now)) }
+    ensures { AnswersMeaning (λ bytes. bytes) result (salt_in (view salt.now)) }
 {
     let Some(text) = salt.as_str() else {
         return Err(ServeSettingsError::BadSettings);

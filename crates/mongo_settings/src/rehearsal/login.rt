@@ -5,7 +5,7 @@ ghost use Rattle.mongo_scram.specs.Costs.{ledgers};
 ghost use Rattle.mongo_establish.specs.Ending.{EndsEstablishment};
 ghost use Rattle.mongo_establish.specs.Options.{client_spec, options_of, options_of_establisher};
 ghost use Rattle.mongo_establish.specs.Speculation.{SpeaksFor};
-ghost use Rattle.mongo_settings.specs.Login.{asked_by, AsksForSettings};
+ghost use Rattle.mongo_settings.specs.Login.{setup_by, HasSetupOf};
 
 use crate::settings::Settings;
 use mongo_bson::Bytes;
@@ -34,7 +34,7 @@ pub struct Login {
 
 /// Makes the login of the settings ready, and hands on their reply bytes.
 pub fn prepare(alloc: Global, settings: Settings) -> Result<(Login, Bytes), AllocError>
-    ensures login { IfOk result (λ ready. AsksForSettings settings ready.0) }
+    ensures login { IfOk result (λ ready. HasSetupOf settings ready.0) }
     ensures replies { IfOk result (λ ready. ready.1 ≡ settings.replies) }
 {
     let Settings {
@@ -83,7 +83,7 @@ pub fn connect<L: Link, G: Ledger>(
 ) -> Result<PooledConnection, EstablishError>
     requires spoken { SpeaksFor login.credential }
     // All that `establish_connection` promises, of what the login asks for.
-    ensures ended { EndsEstablishment (asked_by login) (L.state link.old) (L.state link.new) state.new.ids (ledgers steps.old state.old.salted) (ledgers steps.new state.new.salted) result }
+    ensures ended { EndsEstablishment (setup_by login) (L.state link.old) (L.state link.new) state.new.ids (ledgers steps.old state.old.salted) (ledgers steps.new state.new.salted) result }
     ensures steps { steps.old ≤ steps.new }
 {
     let Login {

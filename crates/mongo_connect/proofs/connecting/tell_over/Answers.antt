@@ -12,7 +12,7 @@ returns-clause-told g c =
     let before = g.L.Outside.state c.args.recording.now.link in
     let steps = steps_of c.args.steps.now ended.new.steps in
     told_over c.args.settings steps g.O.Origin.origin before _ _ c.new-state.result.salted ended.new.state.salted ended.result c.written.result.now c.taken.result c.report_outcome.result c.requires.fresh
-    c.in_ok-login.ensures.login.asked c.new-state.ensures.entries ended.ensures.ended c.written.ensures.kept c.taken.ensures.counted c.report_outcome.ensures.told
+    c.in_ok-login.ensures.login.setup c.new-state.ensures.entries ended.ensures.ended c.written.ensures.kept c.taken.ensures.counted c.report_outcome.ensures.told
 
 pub returns-clause-untold : goal.returns-clause-untold
 returns-clause-untold g c =
@@ -20,4 +20,4 @@ returns-clause-untold g c =
     let before = g.L.Outside.state c.args.recording.now.link in
     let steps = steps_of c.args.steps.now ended.new.steps in
     untold_over c.args.settings steps g.O.Origin.origin before _ _ c.new-state.result.salted ended.new.state.salted ended.result c.report_outcome.result c.requires.fresh
-    c.in_ok-login.ensures.login.asked c.new-state.ensures.entries ended.ensures.ended
+    c.in_ok-login.ensures.login.setup c.new-state.ensures.entries ended.ensures.ended

@@ -1,15 +1,15 @@
 use Rattle.std.proofs.Common.{rules, ap, ◌∙◌, sym, option_copied}
 use Rattle.mongo_scram.proofs.Derived.{costs_nothing}
-use Rattle.mongo_establish.specs.Asked.{asked_over}
+use Rattle.mongo_establish.specs.Setup.{setup_over}
 use Rattle.mongo_establish.proofs.LoggingIn.{no_login, empty_server, has_row, log_in_invalid, log_in_accepted, log_in_stopped}
 use Rattle.mongo_establish.proofs.login.log_in.Goals as goal
 
 pub returns-in_default-clause-logged_in : goal.returns-in_default-clause-logged_in
-returns-in_default-clause-logged_in g c = no_login (asked_over c.args.connection.now c.args.options.now (option_copied c.args.credential) c.args.inputs.now.nonces c.args.state.now.ids) _ _ _ (ap option_copied c.in_default.is) (costs_nothing _ _)
+returns-in_default-clause-logged_in g c = no_login (setup_over c.args.connection.now c.args.options.now (option_copied c.args.credential) c.args.inputs.now.nonces c.args.state.now.ids) _ _ _ (ap option_copied c.in_default.is) (costs_nothing _ _)
 
 pub returns-in_default-mechanism_at-clause-logged_in : goal.returns-in_default-mechanism_at-clause-logged_in
 returns-in_default-mechanism_at-clause-logged_in g c =
-    empty_server (asked_over c.args.connection.now c.args.options.now (option_copied c.args.credential) c.args.inputs.now.nonces c.args.state.now.ids) c.in-Some-stream_description.description c.args.connection.now.stream_description c.args.round _ c.in-Some-stream_description.is c.in_default-mechanism_at.ensures (costs_nothing _ _)
+    empty_server (setup_over c.args.connection.now c.args.options.now (option_copied c.args.credential) c.args.inputs.now.nonces c.args.state.now.ids) c.in-Some-stream_description.description c.args.connection.now.stream_description c.args.round _ c.in-Some-stream_description.is c.in_default-mechanism_at.ensures (costs_nothing _ _)
 
 pub returns-in_err-validate-clause-refused : goal.returns-in_err-validate-clause-refused
 returns-in_err-validate-clause-refused g c =

@@ -1,6 +1,6 @@
 use Rattle.std.proofs.Common.{◌≡◌, ◌∙◌, ◌^◌, ◌<◌, Result, Ok, Err, IfOk, OnOk, length, sym, subst}
 use Rattle.mongo_server.specs.Acceptance.{Accepts}
-use Rattle.mongo_server.specs.Exchange.{first_of, server_final_of, IsReadAs}
+use Rattle.mongo_server.specs.Authentication.{first_of, server_final_of, IsReadAs}
 use Rattle.mongo_generate.specs.Replies.{AreReplies}
 use Rattle.mongo_generate.proofs.ReplySizes.{short_first, short_final}
 use Rattle.mongo_generate.proofs.log_in.heard.Goals as goal

@@ -1,6 +1,6 @@
 use Rattle.std.proofs.Common.{◌≡◌, ◌<◌, ◌^◌, refl, arith}
 use Rattle.mongo_scram.specs.Costs.{ledgers}
-use Rattle.mongo_generate.specs.Generated.{exchange_at, all_messages}
+use Rattle.mongo_generate.specs.Generated.{authentication_at, all_messages}
 use Rattle.mongo_generate.proofs.SoFar.{so_far_none, so_far_more, all_generated}
 use Rattle.mongo_generate.proofs.logins.generate.Goals as goal
 
@@ -12,7 +12,7 @@ loop-number-init g c =
 pub loop-number-preserved : goal.loop-number-preserved
 loop-number-preserved g c =
     let l = c.loop-number in
-    let x = exchange_at l.number in
+    let x = authentication_at l.number in
     let met = c.in_ok-met.ensures.accepted in
     let few : l.number < 2 ^ 32 = omega (arith, c.requires, c.loop-number-test.true) in
     let rises = l.invariant.rises in

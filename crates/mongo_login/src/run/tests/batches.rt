@@ -1,5 +1,5 @@
 // Batches of SCRAM logins with one cache, and the logins that `generate` makes, in rows that an independent model computed.
-use super::rows::{Asked, check_rows};
+use super::rows::{RowForm, check_rows};
 use std::test::Fail;
 
 // One login twice: one derivation. The same with a wrong verifier first, which leaves no key: two. The users a, b and a with one
@@ -23,16 +23,16 @@ const MANY: &str =
 
 #[test]
 fn a_batch_derives_each_key_once(rt: HostRuntime) -> Result<(), Fail> {
-    check_rows(rt.alloc(), Asked::Batch, SHARED)
+    check_rows(rt.alloc(), RowForm::Batch, SHARED)
 }
 
 #[test]
 fn generated_logins_are_those_of_a_batch(rt: HostRuntime) -> Result<(), Fail> {
-    check_rows(rt.alloc(), Asked::Batch, GENERATED)?;
-    check_rows(rt.alloc(), Asked::Words, FOUR)
+    check_rows(rt.alloc(), RowForm::Batch, GENERATED)?;
+    check_rows(rt.alloc(), RowForm::Words, FOUR)
 }
 
 #[test]
 fn three_hundred_logins_are_made(rt: HostRuntime) -> Result<(), Fail> {
-    check_rows(rt.alloc(), Asked::Words, MANY)
+    check_rows(rt.alloc(), RowForm::Words, MANY)
 }

@@ -1,6 +1,6 @@
 // Whole runs whose settings ask for a stable API, a load balancer or a login, in rows each named after the file that an independent
 // model made of it: its name, the settings, the status and the report.
-use super::rows::{Asked, check_rows};
+use super::rows::{RowForm, check_rows};
 use std::test::Fail;
 
 // Stable APIs, load balancers, logins by other mechanisms than SCRAM, and metadata of 512 bytes and of one more, which is shortened.
@@ -47,20 +47,20 @@ scram-properties-given => {"host": "localhost", "credential": {"username": "user
 
 #[test]
 fn apis_balancers_and_other_mechanisms(rt: HostRuntime) -> Result<(), Fail> {
-    check_rows(rt.alloc(), Asked::Whole, RUNS)
+    check_rows(rt.alloc(), RowForm::Whole, RUNS)
 }
 
 #[test]
 fn logins_that_end(rt: HostRuntime) -> Result<(), Fail> {
-    check_rows(rt.alloc(), Asked::Whole, ENDED)
+    check_rows(rt.alloc(), RowForm::Whole, ENDED)
 }
 
 #[test]
 fn first_messages_that_are_refused(rt: HostRuntime) -> Result<(), Fail> {
-    check_rows(rt.alloc(), Asked::Whole, REFUSED_FIRST)
+    check_rows(rt.alloc(), RowForm::Whole, REFUSED_FIRST)
 }
 
 #[test]
 fn logins_that_the_client_refuses(rt: HostRuntime) -> Result<(), Fail> {
-    check_rows(rt.alloc(), Asked::Whole, REFUSED_HERE)
+    check_rows(rt.alloc(), RowForm::Whole, REFUSED_HERE)
 }

@@ -6,7 +6,7 @@ use std::test::Fail;
 
 // What a row says of a run.
 #[derive(Clone, Copy)]
-pub(super) enum Asked {
+pub(super) enum RowForm {
     // A name, settings, the status and the report.
     Whole,
     // A name, the hex of the reply bytes, the status, and the lines that follow the hello's.
@@ -100,22 +100,22 @@ fn replies_end_so(alloc: Global, replies: &str, status: &str, lines: &str) -> Re
 }
 
 // Whether the run of a row ends and prints so.
-fn holds(alloc: Global, asked: Asked, row: &str) -> Result<bool, Fail> {
+fn holds(alloc: Global, form: RowForm, row: &str) -> Result<bool, Fail> {
     let (first, rest) = parts(row);
     let (second, rest) = parts(rest);
-    match asked {
-        Asked::Settings => ends_so(alloc, "rehearse", first.as_bytes(), second, "", rest),
-        Asked::Batch => ends_so(alloc, "batch", first.as_bytes(), second, "", rest),
-        Asked::Words => ends_so(alloc, first, &[], second, "", rest),
-        Asked::Whole => {
+    match form {
+        RowForm::Settings => ends_so(alloc, "rehearse", first.as_bytes(), second, "", rest),
+        RowForm::Batch => ends_so(alloc, "batch", first.as_bytes(), second, "", rest),
+        RowForm::Words => ends_so(alloc, first, &[], second, "", rest),
+        RowForm::Whole => {
             let (status, lines) = parts(rest);
             ends_so(alloc, "rehearse", second.as_bytes(), status, "", lines)
         }
-        Asked::Replies => {
+        RowForm::Replies => {
             let (status, lines) = parts(rest);
             replies_end_so(alloc, second, status, lines)
         }
-        Asked::Faults => {
+        RowForm::Faults => {
             let (sink_fails, wanted) = parts(rest);
             faulty_end(alloc, first, second, sink_fails, wanted)
         }
@@ -123,9 +123,9 @@ fn holds(alloc: Global, asked: Asked, row: &str) -> Result<bool, Fail> {
 }
 
 // Fails at a row whose run ends or prints otherwise.
-pub(super) fn check_rows(alloc: Global, asked: Asked, rows: &str) -> Result<(), Fail> {
+pub(super) fn check_rows(alloc: Global, form: RowForm, rows: &str) -> Result<(), Fail> {
     for row in rows.lines() {
-        if !holds(alloc, asked, row)? {
+        if !holds(alloc, form, row)? {
             return Err(Fail::new(format_args!("{row}")));
         }
     }

@@ -1,6 +1,6 @@
 // Replies to a hello, in rows each named after the file that an independent model made of it: its name, the bytes in hex, the
 // status, and the lines that follow the hello's.
-use super::rows::{Asked, check_rows};
+use super::rows::{RowForm, check_rows};
 use std::test::Fail;
 
 // Replies whose header is changed.
@@ -32,7 +32,7 @@ hundred-and-one-levels => 760300000100000000000000dd070000000000000061030000016f
 
 #[test]
 fn each_run_prints_its_report(rt: HostRuntime) -> Result<(), Fail> {
-    check_rows(rt.alloc(), Asked::Replies, FRAMES)?;
-    check_rows(rt.alloc(), Asked::Replies, HELLOS)?;
-    check_rows(rt.alloc(), Asked::Replies, LEVELS)
+    check_rows(rt.alloc(), RowForm::Replies, FRAMES)?;
+    check_rows(rt.alloc(), RowForm::Replies, HELLOS)?;
+    check_rows(rt.alloc(), RowForm::Replies, LEVELS)
 }

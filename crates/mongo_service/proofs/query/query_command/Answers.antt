@@ -1,5 +1,5 @@
 use Rattle.std.proofs.Common.{inl, refl}
-use Rattle.mongo_session.proofs.Asked.{named_otherwise}
+use Rattle.mongo_session.proofs.RequestFields.{named_otherwise}
 use Rattle.mongo_service.specs.Taken.{query_key}
 use Rattle.mongo_service.proofs.Queried.{wrapped_command}
 use Rattle.mongo_service.proofs.query.query_command.Goals as goal

@@ -1,13 +1,13 @@
 use Rattle.std.proofs.Common.{refl, inl, inr, subst}
 use Rattle.mongo_service.specs.Sent.{WriteCause}
-use Rattle.mongo_service.proofs.Ran.{all_said}
+use Rattle.mongo_service.proofs.Ran.{all_reported}
 use Rattle.mongo_service.proofs.run.say.Goals as goal
 
 pub returns-in-Ok : goal.returns-in-Ok
 returns-in-Ok g c =
     let old = g.K.Outside.state c.args.report.now in
     let new = g.K.Outside.state c.send_bytes.new.sink in
-    record { front = all_said old.written new.written c.args.text.now c.in-Ok.ensures.written; whole = inl (refl, inl (c.in-Ok.ensures.written, c.in-Ok.ensures.flushed, c.in-Ok.ensures.writes)) }
+    record { front = all_reported old.written new.written c.args.text.now c.in-Ok.ensures.written; whole = inl (refl, inl (c.in-Ok.ensures.written, c.in-Ok.ensures.flushed, c.in-Ok.ensures.writes)) }
 
 pub returns-in-Err-WriteFault : goal.returns-in-Err-WriteFault
 returns-in-Err-WriteFault g c =

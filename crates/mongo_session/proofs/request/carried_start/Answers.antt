@@ -1,4 +1,4 @@
-use Rattle.mongo_session.proofs.Asked.{carried}
+use Rattle.mongo_session.proofs.RequestFields.{carried}
 use Rattle.mongo_session.proofs.request.carried_start.Goals as goal
 
 pub returns-in-Some : goal.returns-in-Some

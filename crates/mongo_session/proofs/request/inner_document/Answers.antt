@@ -1,6 +1,6 @@
 use Rattle.std.proofs.Common.{ℕ, List, MatchOption, sym, subst}
 use Rattle.mongo_session.specs.Values.{HasInside}
-use Rattle.mongo_session.proofs.Asked.{inner_held}
+use Rattle.mongo_session.proofs.RequestFields.{inner_held}
 use Rattle.mongo_session.proofs.request.inner_document.Goals as goal
 
 pub returns-in-Some : goal.returns-in-Some

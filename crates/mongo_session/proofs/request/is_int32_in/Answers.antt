@@ -3,7 +3,7 @@ use Rattle.std.specs.Int.{w32}
 use Rattle.std.proofs.lemmas.Bool.{false≢true}
 use Rattle.std.proofs.lemmas.Int.{to_z-of_z}
 use Rattle.mongo_session.specs.Values.{IsInt32}
-use Rattle.mongo_session.proofs.Asked.{int32_held}
+use Rattle.mongo_session.proofs.RequestFields.{int32_held}
 use Rattle.mongo_session.proofs.request.is_int32_in.Goals as goal
 
 pub returns-in-Some : goal.returns-in-Some

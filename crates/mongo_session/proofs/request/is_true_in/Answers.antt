@@ -1,5 +1,5 @@
 use Rattle.std.proofs.lemmas.Bool.{false≢true}
-use Rattle.mongo_session.proofs.Asked.{boolean_held}
+use Rattle.mongo_session.proofs.RequestFields.{boolean_held}
 use Rattle.mongo_session.proofs.request.is_true_in.Goals as goal
 
 pub returns-in-Some : goal.returns-in-Some

@@ -1,7 +1,7 @@
 use Rattle.std.proofs.Common.{sym, subst}
 use Rattle.mongo_session.specs.Requests.{HasPayload}
 use Rattle.mongo_session.specs.Values.{HoldsIfAny}
-use Rattle.mongo_session.proofs.Asked.{binary_held}
+use Rattle.mongo_session.proofs.RequestFields.{binary_held}
 use Rattle.mongo_session.proofs.request.payload_of.Goals as goal
 
 pub returns-in-Some : goal.returns-in-Some

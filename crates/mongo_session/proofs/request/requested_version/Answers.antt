@@ -1,4 +1,4 @@
-use Rattle.mongo_session.proofs.Asked.{version_said, version_unsaid}
+use Rattle.mongo_session.proofs.RequestFields.{version_said, version_unsaid}
 use Rattle.mongo_session.proofs.request.requested_version.Goals as goal
 
 pub returns-in-Some : goal.returns-in-Some

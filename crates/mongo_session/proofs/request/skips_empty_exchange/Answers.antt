@@ -1,4 +1,4 @@
-use Rattle.mongo_session.proofs.Asked.{skips_said, skips_unsaid}
+use Rattle.mongo_session.proofs.RequestFields.{skips_said, skips_unsaid}
 use Rattle.mongo_session.proofs.request.skips_empty_exchange.Goals as goal
 
 pub returns-in-Some : goal.returns-in-Some

@@ -1,5 +1,5 @@
 use Rattle.mongo_sasl.specs.Keys.{sasl_start_key}
-use Rattle.mongo_session.proofs.Asked.{named_otherwise}
+use Rattle.mongo_session.proofs.RequestFields.{named_otherwise}
 use Rattle.mongo_session.proofs.request.speculation_of.Goals as goal
 
 pub returns-in_default : goal.returns-in_default

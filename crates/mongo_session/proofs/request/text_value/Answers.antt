@@ -1,6 +1,6 @@
 use Rattle.std.proofs.Common.{sym, subst}
 use Rattle.mongo_session.specs.Values.{HasText, HoldsIfAny}
-use Rattle.mongo_session.proofs.Asked.{string_held}
+use Rattle.mongo_session.proofs.RequestFields.{string_held}
 use Rattle.mongo_session.proofs.request.text_value.Goals as goal
 
 pub returns-in-Some : goal.returns-in-Some

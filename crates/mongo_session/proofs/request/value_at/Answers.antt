@@ -1,6 +1,6 @@
 use Rattle.mongo_bson.specs.Framed.{element_bytes}
 use Rattle.mongo_bson.proofs.OneAnswer.{found_or_broken}
-use Rattle.mongo_session.proofs.Asked.{stands}
+use Rattle.mongo_session.proofs.RequestFields.{stands}
 use Rattle.mongo_session.proofs.request.value_at.Goals as goal
 
 pub returns-in-Ok : goal.returns-in-Ok

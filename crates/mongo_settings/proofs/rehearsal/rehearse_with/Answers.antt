@@ -39,5 +39,5 @@ returns-clause-taking g c =
     } in
     let count : taken ≡ length settings.replies - length (bytes_left link) = ap (λ l. length l - length c.left.result.now) (c.left-total.ensures ∙ given)
     ∙ ap (λ l. length settings.replies - length l) c.left.ensures in
-    taking settings _ _ _ _ _ written (bytes_left link) taken ended c.report_outcome.result ready.login.asked how.led replayed c.report_outcome.ensures.told
-    (rehearsed settings _ _ _ _ _ _ written (bytes_left link) taken ended c.report_outcome.result ready.login.asked how.established how.refused replayed count c.report_outcome.ensures.told)
+    taking settings _ _ _ _ _ written (bytes_left link) taken ended c.report_outcome.result ready.login.setup how.led replayed c.report_outcome.ensures.told
+    (rehearsed settings _ _ _ _ _ _ written (bytes_left link) taken ended c.report_outcome.result ready.login.setup how.established how.refused replayed count c.report_outcome.ensures.told)

@@ -11,7 +11,7 @@ returns-in_err-ask_mechanisms-clause-refused c =
 pub returns-in_err-speculate-clause-refused : goal.returns-in_err-speculate-clause-refused
 returns-in_err-speculate-clause-refused c =
     let common = ap (λ hello. hello.body) (c.in_ok-hello.ensures.copied ∙ c.args.self.now.hello_is) in
-    speculating_refused _ c.args.self.now.options (option_copied c.args.credential) (option_map first_document c.args.first.now) c.ask_mechanisms.new.body (c.in_ok-ask_mechanisms.ensures.asked ∙ ap (asking_mechanisms (option_copied c.args.credential)) common) (search rules)
+    speculating_refused _ c.args.self.now.options (option_copied c.args.credential) (option_map first_document c.args.first.now) c.ask_mechanisms.new.body (c.in_ok-ask_mechanisms.ensures.setup ∙ ap (asking_mechanisms (option_copied c.args.credential)) common) (search rules)
 
 pub returns-clause-hello : goal.returns-clause-hello
 returns-clause-hello c = search rules

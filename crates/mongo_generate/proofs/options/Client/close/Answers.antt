@@ -1,5 +1,5 @@
 use Rattle.std.proofs.Common.{MatchOption, subst}
-use Rattle.mongo_server.specs.Exchange.{close_of}
+use Rattle.mongo_server.specs.Authentication.{close_of}
 use Rattle.mongo_generate.specs.Written.{CarriesPayloadLast}
 use Rattle.mongo_generate.proofs.options.Client.close.Goals as goal
 

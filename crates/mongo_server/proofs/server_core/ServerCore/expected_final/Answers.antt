@@ -1,5 +1,5 @@
 use Rattle.std.proofs.Common.{rules}
-use Rattle.mongo_server.proofs.ServedExchange.{accepts_final}
+use Rattle.mongo_server.proofs.ServedAuthentication.{accepts_final}
 use Rattle.mongo_server.proofs.server_core.ServerCore.expected_final.Goals as goal
 
 pub returns-in-Some-clause-accepts : goal.returns-in-Some-clause-accepts

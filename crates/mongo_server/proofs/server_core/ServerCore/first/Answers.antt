@@ -1,5 +1,5 @@
 use Rattle.std.proofs.Common.{Some, ap, refl}
-use Rattle.mongo_server.proofs.ServedExchange.{accepts_first, hears_first}
+use Rattle.mongo_server.proofs.ServedAuthentication.{accepts_first, hears_first}
 use Rattle.mongo_server.proofs.ServerRows.{one_first_errors, first_no_row}
 use Rattle.mongo_server.proofs.server_core.ServerCore.first.Goals as goal
 

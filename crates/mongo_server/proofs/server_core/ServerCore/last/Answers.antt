@@ -1,4 +1,4 @@
-use Rattle.mongo_server.proofs.ServedExchange.{takes_final, takes_only}
+use Rattle.mongo_server.proofs.ServedAuthentication.{takes_final, takes_only}
 use Rattle.mongo_server.proofs.ServerRows.{exact_taken, exact_refused}
 use Rattle.mongo_server.proofs.server_core.ServerCore.last.Goals as goal
 

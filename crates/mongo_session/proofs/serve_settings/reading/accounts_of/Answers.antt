@@ -1,6 +1,6 @@
 use Rattle.std.proofs.Common.{drop_of_length-le}
 use Rattle.std.proofs.lemmas.Result.{err_from_is_err_and}
-use Rattle.mongo_session.proofs.Said.{user_more, user_stopped, users_ended}
+use Rattle.mongo_session.proofs.SettingsRead.{user_more, user_stopped, users_ended}
 use Rattle.mongo_session.proofs.serve_settings.reading.accounts_of.Goals as goal
 
 pub returns-in_err-push_accounts : goal.returns-in_err-push_accounts

@@ -2,7 +2,7 @@ use Rattle.std.proofs.Common.{◌+◌, ◌<◌, ◌≤◌, length, drop_of_lengt
 use Rattle.std.proofs.lemmas.Result.{err_from_is_err_and}
 use Rattle.serde_json.specs.View.{view, items_view}
 use Rattle.mongo_session.specs.ServeSettings.{accounts_by, accounts_of_user}
-use Rattle.mongo_session.proofs.Said.{SaidTo, by_from, pair_more, pair_stopped, pairs_ended, unpaired}
+use Rattle.mongo_session.proofs.SettingsRead.{ReadTo, by_from, pair_more, pair_stopped, pairs_ended, unpaired}
 use Rattle.mongo_session.proofs.serve_settings.reading.push_accounts.Goals as goal
 
 pub returns-then-mechanisms-salts-clause-refused : goal.returns-then-mechanisms-salts-clause-refused
@@ -29,7 +29,7 @@ pairs-preserved c =
     let salts = c.in_ok-salts.salts.now in
     let all = accounts_by user (items_view mechanisms) (items_view salts) in
     let within : c.pairs.at < length salts = omega arith in
-    subst (λ accounts. SaidTo c.args.accounts.now.items all accounts (by_from user mechanisms salts (c.pairs.at + 1))) (sym c.in_ok-push.ensures.pushed)
+    subst (λ accounts. ReadTo c.args.accounts.now.items all accounts (by_from user mechanisms salts (c.pairs.at + 1))) (sym c.in_ok-push.ensures.pushed)
     (pair_more user mechanisms salts c.pairs.at c.index-mechanisms-at.result c.index-salts-at.result c.args.accounts.now.items c.pairs.accounts.items c.in_ok-account.account all
     c.pairs-test.true within c.index-mechanisms-at.is c.index-salts-at.is c.pairs.invariant c.in_ok-account.ensures)
 

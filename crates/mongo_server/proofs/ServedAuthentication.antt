@@ -1,4 +1,4 @@
--- The server of an exchange says its messages: the first, the verifier, and the proof that it takes.
+-- The server of an authentication says its messages: the first, the verifier, and the proof that it takes.
 use Rattle.std.proofs.Common.{◌≡◌, ℕ, Some, Result, Ok, Err, List, ◌++◌, decimal, IfOk, IfErr, MatchResult, OnOk, refl, ap, sym, subst, ◌∙◌, inl, inr}
 use Rattle.std.proofs.lemmas.List.Elements.{All-append}
 use Rattle.base64.specs.GeneralPurpose.{IsBytes}
@@ -14,7 +14,7 @@ use Rattle.mongo_server.specs.declared.fault.ServerFault.TheVariants.{OutOfMemor
 use Rattle.mongo_server.specs.declared.server_core.ServerConversation.{ServerConversation}
 use Rattle.mongo_server.specs.declared.server_core.ServerCore.{ServerCore}
 use Rattle.mongo_server.specs.ClientMessages.{IsNonceByte, IsNonce, IsClientFirst, IsClientFinal}
-use Rattle.mongo_server.specs.Exchange.{Exchange, joined_of, salted_between, open_of, first_of, auth_message_between, close_of, server_final_of, IsReadAs}
+use Rattle.mongo_server.specs.Authentication.{Authentication, joined_of, salted_between, open_of, first_of, auth_message_between, close_of, server_final_of, IsReadAs}
 use Rattle.mongo_server.specs.Server.{server_user, salt_of, suffix_of, username_of, held_conversation, first_by, conversation_by, ClientFirstRow, IsClientFinalTaken, ClientFinalRefused, Serves, HasBegun}
 use Rattle.mongo_server.specs.ServerTexts.{server_first, server_final}
 use Rattle.mongo_server.proofs.ClientFirsts.{one_client_first}
@@ -27,7 +27,7 @@ use Rattle.mongo_server.proofs.ProofBytes.{proof_bytes}
 
 -- ---- the first message
 
-module _ (core : ServerCore) (x : Exchange) (serves : Serves core x) where
+module _ (core : ServerCore) (x : Authentication) (serves : Serves core x) where
   suffix_printable : IsNonce x.suffix
   suffix_printable = subst IsNonce serves.suffix core.printable
 
@@ -66,24 +66,24 @@ module _ (core : ServerCore) (x : Exchange) (serves : Serves core x) where
   }
 
 pub accepts_first : (core new : ServerCore) (message text nonce : List ℕ) → IsClientFirst message (username_of core) nonce → text ≡ first_by core nonce → IsBytes (salt_of core) → server_user new ≡ server_user core → suffix_of new ≡ suffix_of core → held_conversation new ≡ Some (conversation_by core nonce)
-    → (x : Exchange) → Serves core x → IsNonce x.nonce → message ≡ open_of x → IsReadAs text x × HasBegun new x
+    → (x : Authentication) → Serves core x → IsNonce x.nonce → message ≡ open_of x → IsReadAs text x × HasBegun new x
 accepts_first core new message text nonce first text_is bytes same_user same_suffix begun x serves printable is =
     let same = (one_client_first message (username_of core) nonce x.username x.nonce first (client_first core x serves message printable is)).nonce_is in
     (answer_read_as core x serves text nonce same printable bytes text_is, has_begun core x serves new nonce same printable bytes same_user same_suffix begun)
 
--- a client of the exchange isn't refused
-pub hears_first : (core : ServerCore) (message : List ℕ) (fault : ServerFault) → ClientFirstRow core message fault → (x : Exchange) → Serves core x → IsNonce x.nonce → message ≡ open_of x → fault ≡ OutOfMemory
+-- a client of the authentication isn't refused
+pub hears_first : (core : ServerCore) (message : List ℕ) (fault : ServerFault) → ClientFirstRow core message fault → (x : Authentication) → Serves core x → IsNonce x.nonce → message ≡ open_of x → fault ≡ OutOfMemory
 hears_first core message fault row x serves printable is =
     absurd (first_no_row core message x.nonce (subst (λ name. IsClientFirst message name x.nonce) (sym serves.user.username_is) (client_first core x serves message printable is)) fault row)
 
 -- ---- the last message
 
-module _ (core : ServerCore) (x : Exchange) (begun : HasBegun core x) where
-  abbrev exchange_held : ServerConversation
-  exchange_held = record { nonce = joined_of x; auth_message = auth_message_between x }
+module _ (core : ServerCore) (x : Authentication) (begun : HasBegun core x) where
+  abbrev authentication_held : ServerConversation
+  authentication_held = record { nonce = joined_of x; auth_message = auth_message_between x }
 
-  held_is : (held : ServerConversation) → held_conversation core ≡ Some held → held ≡ exchange_held
-  held_is held is = let same : Some held ≡ Some exchange_held = sym is ∙ begun.held in cc
+  held_is : (held : ServerConversation) → held_conversation core ≡ Some held → held ≡ authentication_held
+  held_is held is = let same : Some held ≡ Some authentication_held = sym is ∙ begun.held in cc
 
   final_is : (held : ServerConversation) → held_conversation core ≡ Some held → server_final (verifier_under core.user.keys held.auth_message) ≡ server_final_of x
   final_is held is =
@@ -110,19 +110,19 @@ module _ (core : ServerCore) (x : Exchange) (begun : HasBegun core x) where
       (same, accepts x text begun.printable (suffix_printable core x begun.serves) begun.bytes begun.serves.user.within same)
 
 pub accepts_final : (core : ServerCore) (held : ServerConversation) (r : Result (List ℕ) ServerFault) → held_conversation core ≡ Some held → IfOk r (λ text. text ≡ server_final (verifier_under core.user.keys held.auth_message)) → IfErr r (λ fault. fault ≡ OutOfMemory)
-    → (x : Exchange) → HasBegun core x → MatchResult r (λ text. (text ≡ server_final_of x) × Accepts x text) (λ fault. fault ≡ OutOfMemory)
+    → (x : Authentication) → HasBegun core x → MatchResult r (λ text. (text ≡ server_final_of x) × Accepts x text) (λ fault. fault ≡ OutOfMemory)
 accepts_final core held (Ok text) is text_is memory x begun = accepted_text core x begun text held is text_is
 accepts_final core held (Err fault) is text_is memory x begun = memory
 
--- a client of the exchange isn't refused
-pub takes_final : (core : ServerCore) (message : List ℕ) (fault : ServerFault) → ClientFinalRefused core message fault → (x : Exchange) → HasBegun core x → message ≡ close_of x → fault ≡ OutOfMemory
+-- a client of the authentication isn't refused
+pub takes_final : (core : ServerCore) (message : List ℕ) (fault : ServerFault) → ClientFinalRefused core message fault → (x : Authentication) → HasBegun core x → message ≡ close_of x → fault ≡ OutOfMemory
 takes_final core message fault (inl row) x begun is =
-    let held = exchange_held core x begun in
+    let held = authentication_held core x begun in
     let last = subst (λ bytes. IsClientFinal message held.nonce bytes) (sym (owed_is core x begun held begun.held)) (client_final core x begun message is) in
     absurd (final_no_row core message (held, begun.held, last) fault row)
 takes_final core message fault (inr memory) x begun is = memory.0
 
 -- and no other message is taken
-pub takes_only : {T : Type 0} (core : ServerCore) (message : List ℕ) (r : Result T ServerFault) → IsClientFinalTaken core message → (x : Exchange) → HasBegun core x → OnOk r (message ≡ close_of x)
+pub takes_only : {T : Type 0} (core : ServerCore) (message : List ℕ) (r : Result T ServerFault) → IsClientFinalTaken core message → (x : Authentication) → HasBegun core x → OnOk r (message ≡ close_of x)
 takes_only core message (Ok t) is x begun = taken_is core x begun message is
 takes_only core message (Err fault) is x begun = tt

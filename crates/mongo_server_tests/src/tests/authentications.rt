@@ -4,7 +4,7 @@ use mongo_server::ServerCore;
 use std::alloc::Global;
 use std::test::Fail;
 
-/// A whole exchange.
+/// A whole authentication.
 #[derive(Clone, Copy)]
 struct Row {
     known: Known,
@@ -14,7 +14,7 @@ struct Row {
     server_final: &'static str,
 }
 
-// The exchanges of RFC 7677, section 3, of SCRAM-SHA-1 in the MongoDB authentication specification, and, by Python's hashlib
+// The authentications of RFC 7677, section 3, of SCRAM-SHA-1 in the MongoDB authentication specification, and, by Python's hashlib
 // and hmac, one whose user name is escaped.
 fn row_at(place: u8) -> Row {
     match place {
@@ -72,7 +72,7 @@ fn copy_owes(alloc: Global, server: &ServerCore, text: &str) -> bool {
 }
 
 #[test]
-fn exchanges_of_the_standards(rt: HostRuntime) -> Result<(), Fail> {
+fn authentications_of_the_standards(rt: HostRuntime) -> Result<(), Fail> {
     let alloc = rt.alloc();
     for place in 0..3 {
         let row = row_at(place);

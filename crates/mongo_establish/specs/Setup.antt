@@ -9,7 +9,7 @@ use Rattle.mongo_establish.specs.declared.options.HandshakerOptions.{HandshakerO
 use Rattle.mongo_establish.specs.declared.login_state.Nonces.{Nonces}
 
 -- all of it: the definitions of an establishment speak of nothing else
-pub record Asked : Type 0 where
+pub record Setup : Type 0 where
   pub pending : PendingConnection
   -- what the establisher was made of
   pub options : HandshakerOptions
@@ -20,13 +20,13 @@ pub record Asked : Type 0 where
   -- the id of the first command
   pub first_id : ℤ
 
-abbrev pub asked_for : PendingConnection → HandshakerOptions → Option Credential → Nonces → ℤ → Asked
-asked_for pending options credential nonces first_id = record { pending = pending; options = options; credential = credential; nonces = nonces; first_id = first_id }
+abbrev pub setup_for : PendingConnection → HandshakerOptions → Option Credential → Nonces → ℤ → Setup
+setup_for pending options credential nonces first_id = record { pending = pending; options = options; credential = credential; nonces = nonces; first_id = first_id }
 
 -- a handshake over this connection asks the same, and knows no pool
-abbrev pub asked_over : Connection → HandshakerOptions → Option Credential → Nonces → ℤ → Asked
-asked_over connection options credential nonces first_id = asked_for (record { id = connection.id; address = connection.address; generation = Normal 0 }) options credential nonces first_id
+abbrev pub setup_over : Connection → HandshakerOptions → Option Credential → Nonces → ℤ → Setup
+setup_over connection options credential nonces first_id = setup_for (record { id = connection.id; address = connection.address; generation = Normal 0 }) options credential nonces first_id
 
 -- monitoring asks for a hello alone, without nonces
-abbrev pub asked_alone : ServerAddress → ℕ → HandshakerOptions → ℤ → Asked
-asked_alone address id options first_id = asked_for (record { id = id; address = address; generation = Normal 0 }) options None (record { first = []; second = [] }) first_id
+abbrev pub setup_alone : ServerAddress → ℕ → HandshakerOptions → ℤ → Setup
+setup_alone address id options first_id = setup_for (record { id = id; address = address; generation = Normal 0 }) options None (record { first = []; second = [] }) first_id
