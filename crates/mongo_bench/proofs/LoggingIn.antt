@@ -4,7 +4,7 @@ use Rattle.mongo_scram.specs.declared.cache.SaltedCache.{SaltedCache}
 use Rattle.mongo_scram.specs.declared.cache.SaltedKey.{SaltedKey}
 use Rattle.mongo_scram.specs.Cache.{entries_of}
 use Rattle.mongo_scram.specs.Costs.{HasEntry, Ledgers, Derives}
-use Rattle.mongo_establish.specs.KeyCosts.{TakesKey}
+use Rattle.mongo_establish.specs.KeyCosts.{StoresKey}
 use Rattle.mongo_bench.specs.declared.task.Hash.{Hash}
 use Rattle.mongo_bench.specs.Login.{bench_key}
 
@@ -21,7 +21,7 @@ cost hash start made first last (inl none) (inr derived) = let steps = derived.1
 cost hash start made first last (inr some) (inl found) = let steps = found.1.steps in omega (arith, some.2, steps)
 cost hash start made first last (inr some) (inr derived) = absurd (derived.0 some.1)
 
-pub made_more : (hash : Hash) (start made : ℕ) (first last : Ledgers) → Made (bench_key hash) start made first → TakesKey (bench_key hash) first last → Made (bench_key hash) start (made + 1) last
+pub made_more : (hash : Hash) (start made : ℕ) (first last : Ledgers) → Made (bench_key hash) start made first → StoresKey (bench_key hash) first last → Made (bench_key hash) start (made + 1) last
 made_more hash start made first last before takes = let some : 1 ≤ made + 1 = omega arith in inr (some, takes.entry, cost hash start made first last before takes.derived)
 
 -- over the same hash

@@ -125,20 +125,20 @@ abbrev pub derived_line : Hash → ℕ → List ℕ
 derived_line hash count = encode_lower (derived_by hash count) ++ codes "\n"
 
 -- what a pass tells of a document: a number, or whether it is readable
-abbrev pub PassTells : Pass → List ℕ → List ℕ → Type 0
-PassTells Iterate document text = (elements : ℕ) × (text ≡ decimal elements ++ codes "\n")
-PassTells Readable document text =
+abbrev pub PassFinds : Pass → List ℕ → List ℕ → Type 0
+PassFinds Iterate document text = (elements : ℕ) × (text ≡ decimal elements ++ codes "\n")
+PassFinds Readable document text =
     (IsReadable maximum_depth document × (text ≡ codes "readable\n")) ⊎ (¬ (IsReadable maximum_depth document) × (text ≡ codes "not readable\n"))
 
 -- what was written grew by what the pass tells of the document
-abbrev pub HasTold : Pass → List ℕ → Option (List ℕ) → Option (List ℕ) → Type 0
-HasTold pass document old new = (text : List ℕ) × PassTells pass document text × Appends old new text
+abbrev pub HasPrintedFinding : Pass → List ℕ → Option (List ℕ) → Option (List ℕ) → Type 0
+HasPrintedFinding pass document old new = (text : List ℕ) × PassFinds pass document text × Appends old new text
 
 -- what a task prints: a derivation its line, a walk what its pass tells of a document, a document its bytes, frames
 -- and commands a number, and logins how many were accepted, all of them
 abbrev pub Prints : BenchTask → List ℕ → Type 0
 Prints (Derive hash count) text = text ≡ derived_line hash count
-Prints (Walk pass shape count) text = (document : List ℕ) × IsFramed document × PassTells pass document text
+Prints (Walk pass shape count) text = (document : List ℕ) × IsFramed document × PassFinds pass document text
 Prints (Document shape) text = IsFramed text
 Prints (Frames direction size count) text = (length : ℕ) × (text ≡ decimal length ++ codes "\n")
 Prints (Insert count) text = (length : ℕ) × (text ≡ decimal length ++ codes "\n")

@@ -35,7 +35,7 @@ impl Peers {
     ghost use Rattle.std.specs.Prelude.{◌≡◌, ◌+◌, ◌≤◌, [], IfOk, OnOk};
     ghost use Rattle.mongo_scram.specs.Cache.{entries_of};
     ghost use Rattle.mongo_scram.specs.Costs.{ledgers};
-    ghost use Rattle.mongo_establish.specs.KeyCosts.{TakesKey};
+    ghost use Rattle.mongo_establish.specs.KeyCosts.{StoresKey};
     ghost use Rattle.mongo_bench.specs.Login.{bench_key, AreReady};
 
     /// The user of the first generated login over this hash, whose server derives its keys by 4096 steps. Nothing is kept from
@@ -73,7 +73,7 @@ impl Peers {
     ) -> Result<(), AllocError>
         requires ready { AreReady self.old }
         ensures ready { AreReady self.new }
-        ensures takes { OnOk result (TakesKey (bench_key self.old.hash) (ledgers steps.old self.old.state.salted) (ledgers steps.new self.new.state.salted)) }
+        ensures takes { OnOk result (StoresKey (bench_key self.old.hash) (ledgers steps.old self.old.state.salted) (ledgers steps.new self.new.state.salted)) }
         ensures hash { self.new.hash ≡ self.old.hash }
         ensures steps { steps.old ≤ steps.new }
     {

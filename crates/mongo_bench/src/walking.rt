@@ -1,7 +1,7 @@
 ghost use Rattle.std.specs.Prelude.{◌≡◌, ◌≢◌, ◌<◌, ◌++◌, if◌then◌else◌, OnOk, codes};
 ghost use Rattle.std.specs.Fmt.{decimal};
 ghost use Rattle.std.specs.Io.KnownBytes.{Appends};
-ghost use Rattle.mongo_bench.specs.Task.{HasPrinted, HasTold};
+ghost use Rattle.mongo_bench.specs.Task.{HasPrinted, HasPrintedFinding};
 ghost use Rattle.mongo_bench.specs.Work.{nothing_done, work_of_pass};
 
 use crate::documents::document_of_shape;
@@ -39,7 +39,7 @@ pub fn run_walk<W: Write>(
 /// Passes over the document so often, and writes what the last pass found.
 pub fn walk<W: Write>(document: RawDocument<'_>, pass: Pass, count: u32, out: &mut W) -> RanTask
     requires { 0 < count }
-    ensures told { result.status ≡ BenchStatus.Done → HasTold pass document.entry.bytes.now (W.contents out.old) (W.contents out.new) }
+    ensures told { result.status ≡ BenchStatus.Done → HasPrintedFinding pass document.entry.bytes.now (W.contents out.old) (W.contents out.new) }
     ensures work { result.work ≡ work_of_pass pass count }
     ensures ran { result.status ≢ BenchStatus.Usage }
 {

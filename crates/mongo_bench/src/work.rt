@@ -2,7 +2,7 @@ ghost use Rattle.std.specs.Prelude.{◌≡◌, ◌+◌, ◌-◌, ◌^◌, ◌<�
 ghost use Rattle.mongo_bson.specs.Document.{IsReadable, maximum_depth};
 ghost use Rattle.mongo_scram.specs.Cache.{entries_of};
 ghost use Rattle.mongo_scram.specs.Costs.{ledgers};
-ghost use Rattle.mongo_establish.specs.KeyCosts.{TakesKey};
+ghost use Rattle.mongo_establish.specs.KeyCosts.{StoresKey};
 ghost use Rattle.mongo_bench.specs.Login.{bench_key, AreReady};
 ghost use Rattle.mongo_bench.specs.Work.{nothing_done, only_built, only_iterated, only_judged, only_logged_in, only_read, only_read_owned, only_written};
 
@@ -252,7 +252,7 @@ impl Work {
         requires ready { AreReady peers.old }
         ensures ready { AreReady peers.new }
         ensures work { OnOk result (self.new ≡ record self.old { logged_in = self.old.logged_in + 1 }) }
-        ensures takes { OnOk result (TakesKey (bench_key peers.old.hash) (ledgers steps.old peers.old.state.salted) (ledgers steps.new peers.new.state.salted)) }
+        ensures takes { OnOk result (StoresKey (bench_key peers.old.hash) (ledgers steps.old peers.old.state.salted) (ledgers steps.new peers.new.state.salted)) }
         ensures hash { peers.new.hash ≡ peers.old.hash }
         ensures steps { steps.old ≤ steps.new }
     {

@@ -15,12 +15,12 @@ use Rattle.mongo_settings.specs.Run.{Run}
 use Rattle.mongo_settings.specs.Settings.{maximum_settings_length}
 use Rattle.mongo_settings.specs.Status.{status_after, JudgementDecides}
 use Rattle.mongo_settings.specs.Outcome.{taken_by}
-use Rattle.mongo_settings.specs.Task.{StepsTaken}
+use Rattle.mongo_settings.specs.Task.{StepCounts}
 use Rattle.mongo_settings.proofs.Endings.{decides_ok, decides_bad, decides_unbuilt, decides_memory}
 use Rattle.mongo_settings.proofs.Outcomes.{one_status}
 use Rattle.mongo_settings.specs.declared.status.Status.{Status}
 use Rattle.mongo_settings.specs.declared.status.Status.TheVariants.{Done, Refused, BadSettings, Usage, SourceFault, SinkFault, NoMemory, NotBuilt}
-use Rattle.mongo_connect.specs.Connecting.{IsConnectionTold, TellsBytes, ReportsConnection}
+use Rattle.mongo_connect.specs.Connecting.{IsConnectionReported, TellsBytes, ReportsConnection}
 use Rattle.mongo_connect.specs.Input.{is_line_feed, line_of, after_line, LineRead}
 use Rattle.mongo_connect.specs.Settings.{line_judged, with_replies}
 use Rattle.mongo_connect.specs.Run.{Connected, Attempt, ConnectReported, IsRefusedLine, IsSilent, LineRanOut, Ends, ConnectRunEnds, ConnectUnfailed, LineComesOut, ConnectDecided}
@@ -48,7 +48,7 @@ unfailed_after line old middle new read f = record {
 }
 
 -- what the settings of the line asked for, over told bytes
-connected : (input line : List ℕ) (settings : Settings) (steps : StepsTaken) (old middle new : State) (x : Rehearsal) → LineRead line old middle → line_judged line ≡ Ok settings
+connected : (input line : List ℕ) (settings : Settings) (steps : StepCounts) (old middle new : State) (x : Rehearsal) → LineRead line old middle → line_judged line ≡ Ok settings
     → ((bytes : List ℕ) → TellsBytes middle bytes → Unfailed middle new → ReportsConnection settings bytes steps middle new x) → TellsBytes old input → Unfailed old new → Connected input steps x old new
 connected input line settings steps old middle new x read judged rehearses told f =
     let r = rehearses (after_line input) (told_after input line old middle read told) (unfailed_after line old middle new read f) in
@@ -63,14 +63,14 @@ connected input line settings steps old middle new x read judged rehearses told 
       counted = r.counted;
     }
 
-pub attempt : (line : List ℕ) (settings : Settings) (steps : StepsTaken) (old middle new : State) (x : Rehearsal)
-    → LineRead line old middle → line_judged line ≡ Ok settings → IsConnectionTold settings steps middle new x → ((bytes : List ℕ) → TellsBytes middle bytes → Unfailed middle new → ReportsConnection settings bytes steps middle new x) → Attempt steps x old new
+pub attempt : (line : List ℕ) (settings : Settings) (steps : StepCounts) (old middle new : State) (x : Rehearsal)
+    → LineRead line old middle → line_judged line ≡ Ok settings → IsConnectionReported settings steps middle new x → ((bytes : List ℕ) → TellsBytes middle bytes → Unfailed middle new → ReportsConnection settings bytes steps middle new x) → Attempt steps x old new
 attempt line settings steps old middle new x read judged told rehearses = record {
   told = record { line = line; middle = middle; line_read = read; settings = settings; settings_are = judged; done = told };
   connected = λ input is f. connected input line settings steps old middle new x read judged rehearses is f;
 }
 
-module _ {L K : Type 0} (link : L → State) (sink : K → State) (steps : StepsTaken) (run : Run L K) where
+module _ {L K : Type 0} (link : L → State) (sink : K → State) (steps : StepCounts) (run : Run L K) where
   -- ---- each end
 
   pub ends_refused : (line : List ℕ) (error : SettingsError) → LineRead line (link run.source) (link run.source_after) → line_judged line ≡ Err error → run.sink_after ≡ run.sink → IsRefusedLine link sink error run

@@ -15,17 +15,17 @@ use Rattle.mongo_establish.proofs.Establishment.{stopped_refusal}
 use Rattle.mongo_settings.specs.declared.settings.Settings.{Settings}
 use Rattle.mongo_settings.specs.declared.rehearsal.Rehearsal.{Rehearsal}
 use Rattle.mongo_settings.specs.Outcome.{setup_of}
-use Rattle.mongo_settings.specs.Task.{StepsTaken}
-use Rattle.mongo_settings.specs.Telling.{IsReported, Tells}
+use Rattle.mongo_settings.specs.Task.{StepCounts}
+use Rattle.mongo_settings.specs.Reporting.{IsReported, ReportsOutcome}
 use Rattle.mongo_settings.proofs.Rehearsing.{Replayed, rehearsed}
-use Rattle.mongo_settings.proofs.Taking.{counted_over}
-use Rattle.mongo_connect.specs.Connecting.{Attempted, IsConnectionTold, IsUntold, TellsBytes, ReportsConnection}
+use Rattle.mongo_settings.proofs.RehearsalCosts.{counted_over}
+use Rattle.mongo_connect.specs.Connecting.{Attempted, IsConnectionReported, IsUnreported, TellsBytes, ReportsConnection}
 use Rattle.mongo_connect.specs.Recording.{IsTakenCount}
 use Rattle.mongo_connect.specs.Settings.{with_replies}
 
 -- ---- what was recorded
 
-attempted : (settings : Settings) (steps : StepsTaken) (setup : Setup) (origin start new : State) (after : ℤ) (held held_after : SaltedCache) (result : Result PooledConnection EstablishError)
+attempted : (settings : Settings) (steps : StepCounts) (setup : Setup) (origin start new : State) (after : ℤ) (held held_after : SaltedCache) (result : Result PooledConnection EstablishError)
     → start ≡ origin → setup ≡ setup_of settings → entries_of held ≡ [] → EndsEstablishment setup start new after (ledgers steps.before held) (ledgers steps.after held_after) result → Attempted settings steps result origin new
 attempted settings steps setup origin start new after held held_after result begun same none ended =
     let first = ledgers steps.before held in
@@ -39,9 +39,9 @@ attempted settings steps setup origin start new after held held_after result beg
     }
 
 -- an establishment that began where its recording did is told by what that holds
-pub told_over : {E : Type 0} {setup : Setup} (settings : Settings) (steps : StepsTaken) (origin start new : State) (after : ℤ) (held held_after : SaltedCache) (result : Result PooledConnection EstablishError) (written : List ℕ) (taken : ℕ) (r : Result Rehearsal E)
+pub told_over : {E : Type 0} {setup : Setup} (settings : Settings) (steps : StepCounts) (origin start new : State) (after : ℤ) (held held_after : SaltedCache) (result : Result PooledConnection EstablishError) (written : List ℕ) (taken : ℕ) (r : Result Rehearsal E)
     → start ≡ origin → setup ≡ setup_of settings → entries_of held ≡ [] → EndsEstablishment setup start new after (ledgers steps.before held) (ledgers steps.after held_after) result
-    → new.written ≡ append_known origin.written written → IsTakenCount origin.left new.left taken → IfOk r (Tells written taken result) → IfOk r (IsConnectionTold settings steps origin new)
+    → new.written ≡ append_known origin.written written → IsTakenCount origin.left new.left taken → IfOk r (ReportsOutcome written taken result) → IfOk r (IsConnectionReported settings steps origin new)
 told_over {setup = setup} settings steps origin start new after held held_after result written taken (Ok x) begun same none ended appended counted tells = record {
   ended = result;
   attempted = attempted settings steps setup origin start new after held held_after result begun same none ended;
@@ -53,8 +53,8 @@ told_over {setup = setup} settings steps origin start new after held held_after 
 }
 told_over settings steps origin start new after held held_after result written taken (Err e) begun same none ended appended counted tells = tt
 
-pub untold_over : {A E : Type 0} {setup : Setup} (settings : Settings) (steps : StepsTaken) (origin start new : State) (after : ℤ) (held held_after : SaltedCache) (result : Result PooledConnection EstablishError) (r : Result A E)
-    → start ≡ origin → setup ≡ setup_of settings → entries_of held ≡ [] → EndsEstablishment setup start new after (ledgers steps.before held) (ledgers steps.after held_after) result → OnErr r (IsUntold settings steps origin new)
+pub untold_over : {A E : Type 0} {setup : Setup} (settings : Settings) (steps : StepCounts) (origin start new : State) (after : ℤ) (held held_after : SaltedCache) (result : Result PooledConnection EstablishError) (r : Result A E)
+    → start ≡ origin → setup ≡ setup_of settings → entries_of held ≡ [] → EndsEstablishment setup start new after (ledgers steps.before held) (ledgers steps.after held_after) result → OnErr r (IsUnreported settings steps origin new)
 untold_over settings steps origin start new after held held_after result (Ok x) begun same none ended = tt
 untold_over {setup = setup} settings steps origin start new after held held_after result (Err e) begun same none ended = inr (result, attempted settings steps setup origin start new after held held_after result begun same none ended)
 
@@ -65,8 +65,8 @@ unfolding setup_of
 same_setup settings bytes = refl
 
 -- bytes are left
-left_over : (settings : Settings) (bytes : List ℕ) (steps : StepsTaken) (old new : State) (ended : Result PooledConnection EstablishError) (written : List ℕ) (taken : ℕ) (x : Rehearsal)
-    → Attempted settings steps ended old new → TellsBytes old bytes → Unfailed old new → Tells written taken ended x → (left : List ℕ) × (new.left ≡ Some left)
+left_over : (settings : Settings) (bytes : List ℕ) (steps : StepCounts) (old new : State) (ended : Result PooledConnection EstablishError) (written : List ℕ) (taken : ℕ) (x : Rehearsal)
+    → Attempted settings steps ended old new → TellsBytes old bytes → Unfailed old new → ReportsOutcome written taken ended x → (left : List ℕ) × (new.left ≡ Some left)
 left_over settings bytes steps old new (Ok pooled) written taken x a t f tells =
     let rest = a.ended.established.scripted.taken bytes t.left in
     (rest.rest, rest.left_is)
@@ -76,7 +76,7 @@ left_over settings bytes steps old new (Err refusal) written taken x a t f tells
       | inr r ↦ (r.refusal.unread, r.left_by.left)
     ]
 
-rehearses : (settings : Settings) (bytes : List ℕ) (steps : StepsTaken) (old new : State) (x : Rehearsal) → IsConnectionTold settings steps old new x → TellsBytes old bytes → Unfailed old new → ReportsConnection settings bytes steps old new x
+rehearses : (settings : Settings) (bytes : List ℕ) (steps : StepCounts) (old new : State) (x : Rehearsal) → IsConnectionReported settings steps old new x → TellsBytes old bytes → Unfailed old new → ReportsConnection settings bytes steps old new x
 rehearses settings bytes steps old new x told t f =
     let (left, left_is) = left_over settings bytes steps old new told.ended told.written told.taken x told.attempted t f told.tells in
     let fits = t.fits in
@@ -101,7 +101,7 @@ rehearses settings bytes steps old new x told t f =
       counted = record { key = counts.key; key_is = counts.key_is; steps_are = counts.steps_are };
     }
 
-pub rehearsed_over : {E : Type 0} (settings : Settings) (steps : StepsTaken) (old new : State) (r : Result Rehearsal E) → IfOk r (IsConnectionTold settings steps old new)
+pub rehearsed_over : {E : Type 0} (settings : Settings) (steps : StepCounts) (old new : State) (r : Result Rehearsal E) → IfOk r (IsConnectionReported settings steps old new)
     → (bytes : List ℕ) → TellsBytes old bytes → Unfailed old new → IfOk r (ReportsConnection settings bytes steps old new)
 rehearsed_over settings steps old new (Ok x) told bytes t f = rehearses settings bytes steps old new x told t f
 rehearsed_over settings steps old new (Err e) told bytes t f = tt

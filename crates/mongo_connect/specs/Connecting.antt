@@ -12,14 +12,14 @@ use Rattle.mongo_settings.specs.declared.settings.Settings.{Settings}
 use Rattle.mongo_settings.specs.declared.rehearsal.Rehearsal.{Rehearsal}
 use Rattle.mongo_settings.specs.Outcome.{setup_of}
 use Rattle.mongo_settings.specs.Rehearsal.{IsRehearsal, LeftAs}
-use Rattle.mongo_settings.specs.Task.{StepsTaken, CountsKey}
-use Rattle.mongo_settings.specs.Telling.{Tells}
+use Rattle.mongo_settings.specs.Task.{StepCounts, CountsKey}
+use Rattle.mongo_settings.specs.Reporting.{ReportsOutcome}
 use Rattle.mongo_connect.specs.Recording.{IsTakenCount}
 use Rattle.mongo_connect.specs.Settings.{with_replies}
 
 -- The connection that settings ask for was made, or was stopped as the establishment says: by its replies' refusal, a fault of
 -- the link, an end, or want of memory. No key was held before it, and the steps rose by what it derived.
-pub record Attempted (settings : Settings) (steps : StepsTaken) (result : Result PooledConnection EstablishError) (old new : State) : Type 0 where
+pub record Attempted (settings : Settings) (steps : StepCounts) (result : Result PooledConnection EstablishError) (old new : State) : Type 0 where
   pub after : ℤ
   pub held : SaltedCache
   pub none_held : entries_of held ≡ []
@@ -27,18 +27,18 @@ pub record Attempted (settings : Settings) (steps : StepsTaken) (result : Result
   pub ended : EndsEstablishment (setup_of settings) old new after (ledgers steps.before held) (ledgers steps.after held_after) result
 
 -- the report tells how it ended, by all that was written and how many bytes were taken
-pub record IsConnectionTold (settings : Settings) (steps : StepsTaken) (old new : State) (rehearsal : Rehearsal) : Type 0 where
+pub record IsConnectionReported (settings : Settings) (steps : StepCounts) (old new : State) (rehearsal : Rehearsal) : Type 0 where
   pub ended : Result PooledConnection EstablishError
   pub attempted : Attempted settings steps ended old new
   pub written : List ℕ
   pub appended : new.written ≡ append_known old.written written
   pub taken : ℕ
   pub counted : IsTakenCount old.left new.left taken
-  pub tells : Tells written taken ended rehearsal
+  pub tells : ReportsOutcome written taken ended rehearsal
 
 -- no report was made: nothing was done, or what was done isn't told
-abbrev pub IsUntold : Settings → StepsTaken → State → State → Type 0
-IsUntold settings steps old new = ((new ≡ old) × (steps.after ≡ steps.before)) ⊎ ((ended : Result PooledConnection EstablishError) × Attempted settings steps ended old new)
+abbrev pub IsUnreported : Settings → StepCounts → State → State → Type 0
+IsUnreported settings steps old new = ((new ≡ old) × (steps.after ≡ steps.before)) ⊎ ((ended : Result PooledConnection EstablishError) × Attempted settings steps ended old new)
 
 -- ---- a link that tells its bytes
 
@@ -51,7 +51,7 @@ pub record TellsBytes (link : State) (bytes : List ℕ) : Type 0 where
 
 -- The report is the one that the settings have with these reply bytes, the link is left as it says, and the steps rose by the
 -- rounds of the key that they lead to.
-pub record ReportsConnection (settings : Settings) (bytes : List ℕ) (steps : StepsTaken) (old new : State) (rehearsal : Rehearsal) : Type 0 where
+pub record ReportsConnection (settings : Settings) (bytes : List ℕ) (steps : StepCounts) (old new : State) (rehearsal : Rehearsal) : Type 0 where
   pub rehearsal_is : IsRehearsal (with_replies settings bytes) rehearsal
   pub left_as : LeftAs (with_replies settings bytes) rehearsal.report.items rehearsal_is.report old new
   pub counted : CountsKey (with_replies settings bytes) steps

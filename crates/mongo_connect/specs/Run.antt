@@ -15,8 +15,8 @@ use Rattle.mongo_settings.specs.Run.{Run}
 use Rattle.mongo_settings.specs.Status.{JudgementDecides, UnlessUsage}
 use Rattle.mongo_settings.specs.Outcome.{taken_by, status_of}
 use Rattle.mongo_settings.specs.Rehearsal.{IsReport}
-use Rattle.mongo_settings.specs.Task.{StepsTaken, CountsKey, LoginComesOut}
-use Rattle.mongo_connect.specs.Connecting.{IsConnectionTold, IsUntold, TellsBytes}
+use Rattle.mongo_settings.specs.Task.{StepCounts, CountsKey, LoginComesOut}
+use Rattle.mongo_connect.specs.Connecting.{IsConnectionReported, IsUnreported, TellsBytes}
 use Rattle.mongo_connect.specs.Input.{line_of, after_line, TakesOfLine, TakesNoLineFeed, LineRead}
 use Rattle.mongo_connect.specs.Settings.{line_judged, with_replies}
 
@@ -25,7 +25,7 @@ use Rattle.mongo_connect.specs.Settings.{line_judged, with_replies}
 -- The link told this input and didn't fail. Its first line is settings. The report is the one that they have with what follows as
 -- their reply bytes: exactly its frames were written, and flushed, exactly the bytes that its outcome takes were taken, and the steps
 -- rose by the rounds of the key that they lead to.
-pub record Connected (input : List ℕ) (steps : StepsTaken) (rehearsal : Rehearsal) (old new : State) : Type 0 where
+pub record Connected (input : List ℕ) (steps : StepCounts) (rehearsal : Rehearsal) (old new : State) : Type 0 where
   pub settings : Settings
   pub settings_are : line_judged (line_of input) ≡ Ok settings
   pub report : IsReport (with_replies settings (after_line input)) rehearsal.report.items
@@ -45,15 +45,15 @@ pub record LineDone (P : Settings → State → State → Type 0) (old new : Sta
   pub done : P settings middle new
 
 -- The report tells how the establishment ended that the first line asks for, also over a link that fails or tells nothing.
-pub record Attempt (steps : StepsTaken) (rehearsal : Rehearsal) (old new : State) : Type 0 where
-  pub told : LineDone (λ settings middle after. IsConnectionTold settings steps middle after rehearsal) old new
+pub record Attempt (steps : StepCounts) (rehearsal : Rehearsal) (old new : State) : Type 0 where
+  pub told : LineDone (λ settings middle after. IsConnectionReported settings steps middle after rehearsal) old new
   pub connected : (input : List ℕ) → TellsBytes old input → Unfailed old new → Connected input steps rehearsal old new
 
 -- ---- the ends, one a status
 
 module _ {L K : Type 0} (link : L → State) (sink : K → State) where
   -- the report was written whole after what was there, and flushed, and no write of it failed
-  pub record ConnectReported (steps : StepsTaken) (status : RehearsalStatus) (run : Run L K) : Type 0 where
+  pub record ConnectReported (steps : StepCounts) (status : RehearsalStatus) (run : Run L K) : Type 0 where
     pub rehearsal : Rehearsal
     pub status_is : rehearsal.status ≡ status
     pub attempt : Attempt steps rehearsal (link run.source) (link run.source_after)
@@ -69,48 +69,48 @@ module _ {L K : Type 0} (link : L → State) (sink : K → State) where
     pub unreported : run.sink_after ≡ run.sink
 
   -- nothing past the line was read, nothing was written, and no step was counted
-  pub record IsSilent (steps : StepsTaken) (run : Run L K) : Type 0 where
+  pub record IsSilent (steps : StepCounts) (run : Run L K) : Type 0 where
     pub read : TakesOfLine (link run.source).left (link run.source_after).left
     pub unwritten : Unwritten (link run.source) (link run.source_after)
     pub unreported : run.sink_after ≡ run.sink
     pub uncounted : steps.after ≡ steps.before
 
   -- the link failed before the line was read: no line feed was, and no end was met
-  pub record LinkFailed (steps : StepsTaken) (run : Run L K) : Type 0 where
+  pub record LinkFailed (steps : StepCounts) (run : Run L K) : Type 0 where
     pub rose : Rose (link run.source).read_faults (link run.source_after).read_faults
     pub unended : NoReadEnded (link run.source) (link run.source_after)
     pub stopped : TakesNoLineFeed (link run.source).left (link run.source_after).left
     pub silent : IsSilent steps run
 
   -- memory ran out before there were settings: no read of the line failed
-  pub record LineRanOut (steps : StepsTaken) (run : Run L K) : Type 0 where
+  pub record LineRanOut (steps : StepCounts) (run : Run L K) : Type 0 where
     pub unfailed : NoReadFailed (link run.source) (link run.source_after)
     pub ended : EndsAtMostOnce (link run.source) (link run.source_after)
     pub silent : IsSilent steps run
 
   -- a front of the report was written after what was there
-  pub record ReportedFront (steps : StepsTaken) (run : Run L K) : Type 0 where
+  pub record ReportedFront (steps : StepCounts) (run : Run L K) : Type 0 where
     pub rehearsal : Rehearsal
     pub attempt : Attempt steps rehearsal (link run.source) (link run.source_after)
     pub front : AppendsFront (sink run.sink).written (sink run.sink_after).written rehearsal.report.items
 
   -- the report's sink failed
-  pub record ConnectSinkFailed (steps : StepsTaken) (run : Run L K) : Type 0 where
+  pub record ConnectSinkFailed (steps : StepCounts) (run : Run L K) : Type 0 where
     pub rose : Rose (sink run.sink).write_faults (sink run.sink_after).write_faults
     pub front : ReportedFront steps run
 
   -- memory ran out while the report was written, and no write of it failed
-  pub record ReportRanOut (steps : StepsTaken) (run : Run L K) : Type 0 where
+  pub record ReportRanOut (steps : StepCounts) (run : Run L K) : Type 0 where
     pub sink_unfailed : NoWriteFailed (sink run.sink) (sink run.sink_after)
     pub front : ReportedFront steps run
 
   -- what the settings ask for has no report, and none was begun
-  pub record Unreported (steps : StepsTaken) (run : Run L K) : Type 0 where
-    pub setup : LineDone (λ settings middle after. IsUntold settings steps middle after) (link run.source) (link run.source_after)
+  pub record Unreported (steps : StepCounts) (run : Run L K) : Type 0 where
+    pub setup : LineDone (λ settings middle after. IsUnreported settings steps middle after) (link run.source) (link run.source_after)
     pub unreported : run.sink_after ≡ run.sink
 
   -- how a run on a line ends, and the steps that it counted
-  abbrev pub Ends : StepsTaken → Run L K → Status → Type 0
+  abbrev pub Ends : StepCounts → Run L K → Status → Type 0
   Ends steps run Done = ConnectReported steps rehearsal.Accepted run
   Ends steps run Refused = ConnectReported steps rehearsal.Refused run
   Ends steps run BadSettings = IsRefusedLine Bad run
@@ -121,12 +121,12 @@ module _ {L K : Type 0} (link : L → State) (sink : K → State) where
   Ends steps run NotBuilt = IsRefusedLine Unbuilt run
 
   -- there are no words, and it ends so
-  pub record RanLine (words : ℕ) (steps : StepsTaken) (run : Run L K) (status : Status) : Type 0 where
+  pub record RanLine (words : ℕ) (steps : StepCounts) (run : Run L K) (status : Status) : Type 0 where
     pub none : words ≡ 0
     pub ends : Ends steps run status
 
   -- how a run with so many words ends: on a line without any, and having done nothing with some
-  abbrev pub ConnectRunEnds : ℕ → StepsTaken → Run L K → Status → Type 0
+  abbrev pub ConnectRunEnds : ℕ → StepCounts → Run L K → Status → Type 0
   ConnectRunEnds words steps run status = UnlessUsage (0 < words) run (RanLine words steps run) status
 
   -- ---- what decides

@@ -3,7 +3,7 @@ ghost use Rattle.std.specs.Prelude.{◌≡◌, ◌≤◌, ℕ, List, IfOk, OnErr
 ghost use Rattle.mongo_wire.specs.Outside.{Unfailed};
 ghost use Rattle.mongo_establish.specs.Speculation.{SpeaksFor};
 ghost use Rattle.mongo_settings.specs.Task.{steps_of};
-ghost use Rattle.mongo_connect.specs.Connecting.{IsConnectionTold, IsUntold, ReportsConnection, TellsBytes};
+ghost use Rattle.mongo_connect.specs.Connecting.{IsConnectionReported, IsUnreported, ReportsConnection, TellsBytes};
 
 use crate::origin::Origin;
 use crate::recording::Recording;
@@ -25,10 +25,10 @@ pub fn connect_over<L: Link, G: Ledger>(
     requires spoken { SpeaksFor settings.credential }
     // Over any link the report says how the establishment ended, what was written and how much was taken, and the steps rise by
     // what it derived.
-    ensures told { IfOk result.0 (IsConnectionTold settings (steps_of steps.old steps.new) (L.state link) (L.state result.1)) }
+    ensures told { IfOk result.0 (IsConnectionReported settings (steps_of steps.old steps.new) (L.state link) (L.state result.1)) }
     // Over one that tells its bytes and doesn't fail it is that of a rehearsal on them, and the link is left as it says.
     ensures rehearsed { (bytes : List ℕ) → TellsBytes (L.state link) bytes → Unfailed (L.state link) (L.state result.1) → IfOk result.0 (ReportsConnection settings bytes (steps_of steps.old steps.new) (L.state link) (L.state result.1)) }
-    ensures untold { OnErr result.0 (IsUntold settings (steps_of steps.old steps.new) (L.state link) (L.state result.1)) }
+    ensures untold { OnErr result.0 (IsUnreported settings (steps_of steps.old steps.new) (L.state link) (L.state result.1)) }
     ensures steps { steps.old ≤ steps.new }
 {
     record_over::<L, Brand, G>(alloc, settings, link, steps)
@@ -43,17 +43,17 @@ fn record_over<L: Link, O: Origin, G: Ledger>(
 ) -> (Result<Rehearsal, AllocError>, L)
     requires spoken { SpeaksFor settings.credential }
     requires origin { O.origin ≡ L.state link }
-    ensures told { IfOk result.0 (IsConnectionTold settings (steps_of steps.old steps.new) (L.state link) (L.state result.1)) }
-    ensures untold { OnErr result.0 (IsUntold settings (steps_of steps.old steps.new) (L.state link) (L.state result.1)) }
+    ensures told { IfOk result.0 (IsConnectionReported settings (steps_of steps.old steps.new) (L.state link) (L.state result.1)) }
+    ensures untold { OnErr result.0 (IsUnreported settings (steps_of steps.old steps.new) (L.state link) (L.state result.1)) }
     ensures steps { steps.old ≤ steps.new }
 {
     let mut recording = Recording::<L, O>::new(alloc, link);
-    let told = tell_over(alloc, settings, &mut recording, steps);
+    let told = report_over(alloc, settings, &mut recording, steps);
     (told, recording.into_link())
 }
 
 // Makes the connection over a recording that has recorded nothing, and reports it.
-fn tell_over<L: Link, O: Origin, G: Ledger>(
+fn report_over<L: Link, O: Origin, G: Ledger>(
     alloc: Global,
     settings: Settings,
     recording: &mut Recording<L, O>,
@@ -61,8 +61,8 @@ fn tell_over<L: Link, O: Origin, G: Ledger>(
 ) -> Result<Rehearsal, AllocError>
     requires spoken { SpeaksFor settings.credential }
     requires fresh { L.state recording.old.link ≡ O.origin }
-    ensures told { IfOk result (IsConnectionTold settings (steps_of steps.old steps.new) O.origin (L.state recording.new.link)) }
-    ensures untold { OnErr result (IsUntold settings (steps_of steps.old steps.new) O.origin (L.state recording.new.link)) }
+    ensures told { IfOk result (IsConnectionReported settings (steps_of steps.old steps.new) O.origin (L.state recording.new.link)) }
+    ensures untold { OnErr result (IsUnreported settings (steps_of steps.old steps.new) O.origin (L.state recording.new.link)) }
     ensures steps { steps.old ≤ steps.new }
 {
     let (login, _replies) = prepare(alloc, settings)?;

@@ -20,7 +20,7 @@ use Rattle.mongo_scram.specs.declared.conversation.FirstRound.{FirstRound as Scr
 use Rattle.mongo_scram.specs.declared.scram_version.ScramVersion.{ScramVersion}
 use Rattle.mongo_scram.specs.Base64.{base64_of}
 use Rattle.mongo_scram.specs.Client.{speculated_of, handed_to}
-use Rattle.mongo_scram.specs.Costs.{Ledgers, Balance, balance, CostsNothing, Accepted, StoppedScram}
+use Rattle.mongo_scram.specs.Costs.{Ledgers, Checkpoint, checkpoint, CostsNothing, Accepted, StoppedScram}
 use Rattle.mongo_scram.specs.EndsByScram.{EndsByScram}
 use Rattle.mongo_scram.specs.Plan.{Handed, scram_plan}
 use Rattle.mongo_sasl.proofs.Handed.{on_refusal}
@@ -57,14 +57,14 @@ handed_same version setup credential greeting api round begun held p b went d =
     let q = ap speculated_of b ∙ went.scram tt in
     λ i. let h : Handed = record { version = version; credential = credential; server_api = p i; speculated = q i; nonce = base64_of setup.nonces.second; max_iterations = setup.options.max_iterations; maximum = frame_maximum (d i) } in h
 
-scram_accepted : (version : ScramVersion) (setup : Setup) (credential : Credential) (greeting : Greeting) (buffer : FrameBuffer) (old new : Balance) → Accepted (scram_handed_by version setup credential greeting) buffer old new → Conversed (Scram version) setup credential greeting old new
+scram_accepted : (version : ScramVersion) (setup : Setup) (credential : Credential) (greeting : Greeting) (buffer : FrameBuffer) (old new : Checkpoint) → Accepted (scram_handed_by version setup credential greeting) buffer old new → Conversed (Scram version) setup credential greeting old new
 unfolding conversation_plan
 scram_accepted version setup credential greeting buffer old new is = record {
   reached = then_reached (scram_plan (scram_handed_by version setup credential greeting)) is.challenge greeting old.state new.state old.id new.id (accepted_reached (scram_handed_by version setup credential greeting) buffer old new is);
   costs = record { buffer = buffer; accepted = is };
 }
 
-scram_stopped : (version : ScramVersion) (setup : Setup) (credential : Credential) (greeting : Greeting) (kind : ErrorKind) (kept : Option ErrorKind) (old new : Balance) → StopsScram (scram_handed_by version setup credential greeting) kind kept old new → ConversationStopped (Scram version) setup credential greeting kind kept old new
+scram_stopped : (version : ScramVersion) (setup : Setup) (credential : Credential) (greeting : Greeting) (kind : ErrorKind) (kept : Option ErrorKind) (old new : Checkpoint) → StopsScram (scram_handed_by version setup credential greeting) kind kept old new → ConversationStopped (Scram version) setup credential greeting kind kept old new
 unfolding conversation_plan
 scram_stopped version setup credential greeting kind kept old new is = record {
   stopped = then_stopped (scram_plan (scram_handed_by version setup credential greeting)) greeting kind old.state new.state old.id new.id is.1;
@@ -75,14 +75,14 @@ module _ (version : ScramVersion) (setup : Setup) (credential : Credential) (rou
   abbrev handed : Handed
   handed = handed_to version credential api begun (base64_of setup.nonces.second) setup.options.max_iterations (frame_maximum opened.stream_description)
 
-  scram_done : (greeting : Greeting) (r : Result (Unit {0}) Error) (buffer : FrameBuffer) (old new : Balance) → opened.stream_description ≡ Some greeting.description → IsRoundBy (Some (Scram version)) credential setup greeting round
+  scram_done : (greeting : Greeting) (r : Result (Unit {0}) Error) (buffer : FrameBuffer) (old new : Checkpoint) → opened.stream_description ≡ Some greeting.description → IsRoundBy (Some (Scram version)) credential setup greeting round
       → OnOk r (Accepted handed buffer old new) → OnOk r (Conversed (Scram version) setup credential greeting old new)
   scram_done greeting (Ok done) buffer old new described went accepted =
       let is = handed_same version setup credential greeting api round begun opened.stream_description same begins went described in
       scram_accepted version setup credential greeting buffer old new (subst (λ h. Accepted h buffer old new) is accepted)
   scram_done greeting (Err e) buffer old new described went accepted = tt
 
-  scram_failed : (greeting : Greeting) (r : Result (Unit {0}) Error) (old new : Balance) → opened.stream_description ≡ Some greeting.description → IsRoundBy (Some (Scram version)) credential setup greeting round
+  scram_failed : (greeting : Greeting) (r : Result (Unit {0}) Error) (old new : Checkpoint) → opened.stream_description ≡ Some greeting.description → IsRoundBy (Some (Scram version)) credential setup greeting round
       → IfErr r (λ e. StoppedScram handed e.kind old new) → IfErr r (λ e. StoppedKeeping (scram_plan handed) e.kind old.state new.state old.id new.id (kept_fault left)) → IfErr r (λ e. ConversationStopped (Scram version) setup credential greeting e.kind (kept_fault left) old new)
   scram_failed greeting (Ok done) old new described went costs stopped = tt
   scram_failed greeting (Err e) old new described went costs stopped =
@@ -91,7 +91,7 @@ module _ (version : ScramVersion) (setup : Setup) (credential : Credential) (rou
 
   -- what a login by SCRAM promises is what its conversation does
   pub scram_converses : {L : Type 0} (state : L → State) (link link' : L) (before after : ℤ) (buffer buffer' : FrameBuffer) (r : Result (Unit {0}) Error) (early late : Ledgers) → kept_fault opened ≡ None
-      → EndsByScram state handed r (standing opened link before buffer) (standing left link' after buffer') early late → Converses r (Scram version) setup credential round opened left (balance (state link) before early) (balance (state link') after late)
+      → EndsByScram state handed r (standing opened link before buffer) (standing left link' after buffer') early late → Converses r (Scram version) setup credential round opened left (checkpoint (state link) before early) (checkpoint (state link') after late)
   scram_converses state link link' before after buffer buffer' r early late faultless login = record {
     accepted = λ greeting described went. scram_done greeting r buffer' _ _ described went login.accepted;
     refused = λ greeting described went. scram_failed greeting r _ _ described went (login.refused faultless) (login.script.stops.refused faultless);
@@ -110,7 +110,7 @@ IsPartBy plan conversation setup credential held round =
     (greeting : Greeting) → held ≡ Some greeting.description → IsRoundBy (Some conversation) credential setup greeting round → (past : List Event) (turn : Turn Greeting) → followed plan greeting past turn → conversation_plan conversation setup credential greeting past turn
 
 module _ (own conversation : Conversation) (is : conversation ≡ own) (free : scram_in (Some own) ≡ None) (setup : Setup) (credential : Credential) (round : Option AnsweredRound) (opened left : Connection) {A : Type 0} (plan : Plan A) (part : IsPartBy plan own setup credential opened.stream_description round) where
-  free_done : (greeting : Greeting) (r : Result (Unit {0}) Error) (old new : Balance) → CostsNothing old.ledgers new.ledgers → opened.stream_description ≡ Some greeting.description → IsRoundBy (Some own) credential setup greeting round
+  free_done : (greeting : Greeting) (r : Result (Unit {0}) Error) (old new : Checkpoint) → CostsNothing old.ledgers new.ledgers → opened.stream_description ≡ Some greeting.description → IsRoundBy (Some own) credential setup greeting round
       → OnOk r ((answer : A) × Reached plan answer old.state new.state old.id new.id) → OnOk r (Conversed own setup credential greeting old new)
   free_done greeting (Ok done) old new nothing described went reached = record {
     reached = reached_more (followed plan greeting) (conversation_plan own setup credential greeting) greeting old.state new.state old.id new.id (part greeting described went) (then_reached plan reached.0 greeting old.state new.state old.id new.id reached.1);
@@ -118,7 +118,7 @@ module _ (own conversation : Conversation) (is : conversation ≡ own) (free : s
   }
   free_done greeting (Err e) old new nothing described went reached = tt
 
-  free_failed : (greeting : Greeting) (r : Result (Unit {0}) Error) (old new : Balance) → CostsNothing old.ledgers new.ledgers → opened.stream_description ≡ Some greeting.description → IsRoundBy (Some own) credential setup greeting round
+  free_failed : (greeting : Greeting) (r : Result (Unit {0}) Error) (old new : Checkpoint) → CostsNothing old.ledgers new.ledgers → opened.stream_description ≡ Some greeting.description → IsRoundBy (Some own) credential setup greeting round
       → IfErr r (λ e. StoppedKeeping plan e.kind old.state new.state old.id new.id (kept_fault left)) → IfErr r (λ e. ConversationStopped own setup credential greeting e.kind (kept_fault left) old new)
   free_failed greeting (Ok done) old new nothing described went stopped = tt
   free_failed greeting (Err e) old new nothing described went stopped = record {
@@ -128,10 +128,10 @@ module _ (own conversation : Conversation) (is : conversation ≡ own) (free : s
 
   -- what a login that costs nothing promises is what its conversation does
   pub free_converses : {L : Type 0} (state : L → State) (IsLogin : List (List ℕ) → List (List ℕ) → Type 0) (maximum : ℤ) (link link' : L) (before after : ℤ) (buffer buffer' : FrameBuffer) (r : Result (Unit {0}) Error) (ledgers : Ledgers) → CostsNothing ledgers ledgers → kept_fault opened ≡ None
-      → EndsByScript state plan IsLogin maximum r (standing opened link before buffer) (standing left link' after buffer') → Converses r conversation setup credential round opened left (balance (state link) before ledgers) (balance (state link') after ledgers)
+      → EndsByScript state plan IsLogin maximum r (standing opened link before buffer) (standing left link' after buffer') → Converses r conversation setup credential round opened left (checkpoint (state link) before ledgers) (checkpoint (state link') after ledgers)
   free_converses state IsLogin maximum link link' before after buffer buffer' r ledgers nothing faultless login =
-      let old = balance (state link) before ledgers in
-      let new = balance (state link') after ledgers in
+      let old = checkpoint (state link) before ledgers in
+      let new = checkpoint (state link') after ledgers in
       let answered : Converses r own setup credential round opened left old new = record {
         accepted = λ greeting described went. free_done greeting r old new nothing described went login.accepted;
         refused = λ greeting described went. free_failed greeting r old new nothing described went (login.stops.refused faultless);

@@ -5,17 +5,17 @@ use Rattle.mongo_wire.specs.Outside.{State}
 use Rattle.mongo_command.specs.Conversation.{Plan}
 use Rattle.mongo_scram.specs.declared.cache.SaltedKey.{SaltedKey}
 use Rattle.mongo_scram.specs.Cache.{entries_of, rounds_of}
-use Rattle.mongo_scram.specs.Costs.{Ledgers, Balance, balance, HasEntry, Counts, Derives, SameEntries, CostsNothing}
+use Rattle.mongo_scram.specs.Costs.{Ledgers, Checkpoint, checkpoint, HasEntry, Counts, Derives, SameEntries, CostsNothing}
 use Rattle.mongo_establish.specs.declared.establisher.EstablishError.{EstablishError}
 use Rattle.mongo_establish.specs.declared.establisher.PooledConnection.{PooledConnection}
 use Rattle.mongo_establish.specs.Setup.{Setup}
 use Rattle.mongo_establish.specs.Established.{Established}
 use Rattle.mongo_establish.specs.Derivation.{LeadsToKey}
-use Rattle.mongo_establish.specs.KeyCosts.{TakesKey, AcceptedTakes, RefusedTakes, TakesAsLed}
+use Rattle.mongo_establish.specs.KeyCosts.{StoresKey, AcceptedKeyCosts, RefusedKeyCosts, LedToKey}
 use Rattle.mongo_establish.specs.Stopped.{StoppedIn}
 use Rattle.mongo_establish.proofs.DerivationPlan.{one_led_key}
-use Rattle.mongo_establish.proofs.DerivationSteps.{KeyTaken, KeySpent}
-use Rattle.mongo_establish.proofs.KeyTaken.{handshake_taken, establishment_spent}
+use Rattle.mongo_establish.proofs.DerivationSteps.{KeyStored, KeySpent}
+use Rattle.mongo_establish.proofs.KeyStored.{handshake_taken, establishment_spent}
 
 -- ---- some rounds
 
@@ -35,19 +35,19 @@ derived_some : (key : SaltedKey) (first last : Ledgers) → Derives key first la
 derived_some key first last derived kept =
     elim derived [ inl found ↦ record { rounds = 0; counts = found.1; kept = kept } | inr anew ↦ record { rounds = key.count; counts = anew.1; kept = kept } ]
 
-pub accepted_some : (key : Option SaltedKey) (first last : Ledgers) → AcceptedTakes key first last → CostsSome first last
+pub accepted_some : (key : Option SaltedKey) (first last : Ledgers) → AcceptedKeyCosts key first last → CostsSome first last
 accepted_some None first last takes = nothing_some first last takes
 accepted_some (Some key) first last takes =
     derived_some key first last takes.derived (λ entry there. elim takes.others [ inl same ↦ same_kept first last same entry there | inr adds ↦ (adds entry).1 (inl there) ])
 
-pub refused_some : (key : Option SaltedKey) (first last : Ledgers) → RefusedTakes key first last → CostsSome first last
+pub refused_some : (key : Option SaltedKey) (first last : Ledgers) → RefusedKeyCosts key first last → CostsSome first last
 refused_some None first last takes = nothing_some first last takes
 refused_some (Some key) first last takes = derived_some key first last takes.derived (same_kept first last takes.entries)
 
-taken_some : (plan : Plan (Option SaltedKey)) (old new : Balance) → KeyTaken plan old new → CostsSome old.ledgers new.ledgers
+taken_some : (plan : Plan (Option SaltedKey)) (old new : Checkpoint) → KeyStored plan old new → CostsSome old.ledgers new.ledgers
 taken_some plan old new t = accepted_some t.key old.ledgers new.ledgers t.takes
 
-spent_some : (plan : Plan (Option SaltedKey)) (kind : ErrorKind) (old new : Balance) → KeySpent plan kind old new → CostsSome old.ledgers new.ledgers
+spent_some : (plan : Plan (Option SaltedKey)) (kind : ErrorKind) (old new : Checkpoint) → KeySpent plan kind old new → CostsSome old.ledgers new.ledgers
 spent_some plan kind old new s =
     elim s [
       | inl early ↦ nothing_some old.ledgers new.ledgers early.nothing
@@ -57,11 +57,11 @@ spent_some plan kind old new s =
 -- however an establishment came out
 pub costs_some : (r : Result PooledConnection EstablishError) (setup : Setup) (old new : State) (after : ℤ) (first last : Ledgers) → IfOk r (Established setup old new after first last)
     → IfErr r (λ e. StoppedIn e.handshake_phase setup e.cause.kind old new after first last) → CostsSome first last
-costs_some (Ok pooled) setup old new after first last made refused = taken_some _ _ _ (handshake_taken setup made.script.greeting (balance old setup.first_id first) (balance new after last) made.costs)
+costs_some (Ok pooled) setup old new after first last made refused = taken_some _ _ _ (handshake_taken setup made.script.greeting (checkpoint old setup.first_id first) (checkpoint new after last) made.costs)
 costs_some (Err e) setup old new after first last made refused =
     elim (establishment_spent e.handshake_phase setup e.cause.kind old new after first last refused) [
-      | inl spent ↦ spent_some _ e.cause.kind (balance old setup.first_id first) (balance new after last) spent
-      | inr unnamed ↦ taken_some _ _ _ (handshake_taken setup unnamed.1.0 (balance old setup.first_id first) (balance new after last) unnamed.1.1)
+      | inl spent ↦ spent_some _ e.cause.kind (checkpoint old setup.first_id first) (checkpoint new after last) spent
+      | inr unnamed ↦ taken_some _ _ _ (handshake_taken setup unnamed.1.0 (checkpoint old setup.first_id first) (checkpoint new after last) unnamed.1.1)
     ]
 
 -- the counter never falls
@@ -86,7 +86,7 @@ key_of_entry : (key other : SaltedKey) (tag another : List ℕ) → ◌≡◌ {A
 key_of_entry key other tag another same = ap (λ (entry : SaltedKey × List ℕ). entry.0) same
 
 -- those that had one, and the key that was taken
-pub taken_keys : (key : SaltedKey) (first last : Ledgers) → TakesKey key first last → (other : SaltedKey) → HasEntry last.cache other ↔ (HasEntry first.cache other ⊎ (key ≡ other))
+pub taken_keys : (key : SaltedKey) (first last : Ledgers) → StoresKey key first last → (other : SaltedKey) → HasEntry last.cache other ↔ (HasEntry first.cache other ⊎ (key ≡ other))
 taken_keys key first last takes other =
     elim takes.others [
       | inl same ↦
@@ -101,5 +101,5 @@ taken_keys key first last takes other =
 -- ---- over told bytes
 
 -- a key that the bytes lead to is the one that was taken
-pub taken_as_led : (setup : Setup) (bytes : List ℕ) (takes : Option SaltedKey → Type 0) (key : Option SaltedKey) → TakesAsLed setup bytes takes → LeadsToKey setup bytes key → takes key
+pub taken_as_led : (setup : Setup) (bytes : List ℕ) (takes : Option SaltedKey → Type 0) (key : Option SaltedKey) → LedToKey setup bytes takes → LeadsToKey setup bytes key → takes key
 taken_as_led setup bytes takes key t led = subst takes (one_led_key setup bytes t.key key t.leads led) t.taken

@@ -7,33 +7,33 @@ use Rattle.mongo_command.specs.Conversation.{Event, Turn, Plan, followed_by, Rea
 use Rattle.mongo_command.proofs.Steps.{reached_more, stopped_more}
 use Rattle.mongo_command.proofs.FollowedBy.{reached_both, stopped_second}
 use Rattle.mongo_scram.specs.declared.cache.SaltedKey.{SaltedKey}
-use Rattle.mongo_scram.specs.Costs.{Balance, balance, CostsNothing}
-use Rattle.mongo_establish.specs.KeyCosts.{AcceptedTakes, RefusedTakes}
+use Rattle.mongo_scram.specs.Costs.{Checkpoint, checkpoint, CostsNothing}
+use Rattle.mongo_establish.specs.KeyCosts.{AcceptedKeyCosts, RefusedKeyCosts}
 
 -- ---- how far the plan was followed
 
 -- it was followed to its end, and what came after it was accepted
-pub record KeyTaken (plan : Plan (Option SaltedKey)) (old new : Balance) : Type 0 where
+pub record KeyStored (plan : Plan (Option SaltedKey)) (old new : Checkpoint) : Type 0 where
   pub key : Option SaltedKey
   pub middle : State
   pub between : ℤ
   pub reached : Reached plan key old.state middle old.id between
-  pub takes : AcceptedTakes key old.ledgers new.ledgers
+  pub takes : AcceptedKeyCosts key old.ledgers new.ledgers
 
 -- it was followed to its end, and what came after it was refused; memory may have run out before the key was derived
-pub record SpentAfterKey (plan : Plan (Option SaltedKey)) (kind : ErrorKind) (old new : Balance) : Type 0 where
+pub record SpentAfterKey (plan : Plan (Option SaltedKey)) (kind : ErrorKind) (old new : Checkpoint) : Type 0 where
   pub key : Option SaltedKey
   pub middle : State
   pub between : ℤ
   pub reached : Reached plan key old.state middle old.id between
-  pub takes : RefusedTakes key old.ledgers new.ledgers ⊎ ((kind ≡ OutOfMemory) × CostsNothing old.ledgers new.ledgers)
+  pub takes : RefusedKeyCosts key old.ledgers new.ledgers ⊎ ((kind ≡ OutOfMemory) × CostsNothing old.ledgers new.ledgers)
 
 -- it was stopped, and nothing was derived
-pub record SpentBeforeKey (plan : Plan (Option SaltedKey)) (kind : ErrorKind) (old new : Balance) : Type 0 where
+pub record SpentBeforeKey (plan : Plan (Option SaltedKey)) (kind : ErrorKind) (old new : Checkpoint) : Type 0 where
   pub stopped : Stopped plan kind old.state new.state old.id new.id
   pub nothing : CostsNothing old.ledgers new.ledgers
 
-abbrev pub KeySpent : Plan (Option SaltedKey) → ErrorKind → Balance → Balance → Type 0
+abbrev pub KeySpent : Plan (Option SaltedKey) → ErrorKind → Checkpoint → Checkpoint → Type 0
 KeySpent plan kind old new = SpentBeforeKey plan kind old new ⊎ SpentAfterKey plan kind old new
 
 -- ---- a plan that tells more
@@ -42,7 +42,7 @@ KeySpent plan kind old new = SpentBeforeKey plan kind old new ⊎ SpentAfterKey 
 abbrev pub TellsMore : {A : Type 0} → Plan A → Plan A → Type 0
 TellsMore {A} plan other = (past : List Event) (turn : Turn A) → plan past turn → other past turn
 
-pub taken_more : (plan other : Plan (Option SaltedKey)) (old new : Balance) → TellsMore plan other → KeyTaken plan old new → KeyTaken other old new
+pub taken_more : (plan other : Plan (Option SaltedKey)) (old new : Checkpoint) → TellsMore plan other → KeyStored plan old new → KeyStored other old new
 taken_more plan other old new more a = record {
   key = a.key;
   middle = a.middle;
@@ -51,7 +51,7 @@ taken_more plan other old new more a = record {
   takes = a.takes;
 }
 
-pub spent_more : (plan other : Plan (Option SaltedKey)) (kind : ErrorKind) (old new : Balance) → TellsMore plan other → KeySpent plan kind old new → KeySpent other kind old new
+pub spent_more : (plan other : Plan (Option SaltedKey)) (kind : ErrorKind) (old new : Checkpoint) → TellsMore plan other → KeySpent plan kind old new → KeySpent other kind old new
 spent_more plan other kind old new more r =
     elim r [
       | inl early ↦ inl (record { stopped = (early.stopped.0, stopped_more plan other kind old.state new.state old.id new.id more early.stopped.1); nothing = early.nothing })
@@ -60,8 +60,8 @@ spent_more plan other kind old new more r =
 
 -- ---- a plan, and then that of the key
 
-pub taken_after : {A : Type 0} (plan : Plan A) (next : A → Plan (Option SaltedKey)) (answer : A) (middle : State) (between : ℤ) (old new : Balance)
-    → Reached plan answer old.state middle old.id between → KeyTaken (next answer) (balance middle between old.ledgers) new → KeyTaken (followed_by plan next) old new
+pub taken_after : {A : Type 0} (plan : Plan A) (next : A → Plan (Option SaltedKey)) (answer : A) (middle : State) (between : ℤ) (old new : Checkpoint)
+    → Reached plan answer old.state middle old.id between → KeyStored (next answer) (checkpoint middle between old.ledgers) new → KeyStored (followed_by plan next) old new
 taken_after plan next answer middle between old new r a = record {
   key = a.key;
   middle = a.middle;
@@ -70,8 +70,8 @@ taken_after plan next answer middle between old new r a = record {
   takes = a.takes;
 }
 
-pub spent_after : {A : Type 0} (plan : Plan A) (next : A → Plan (Option SaltedKey)) (answer : A) (kind : ErrorKind) (middle : State) (between : ℤ) (old new : Balance)
-    → Reached plan answer old.state middle old.id between → KeySpent (next answer) kind (balance middle between old.ledgers) new → KeySpent (followed_by plan next) kind old new
+pub spent_after : {A : Type 0} (plan : Plan A) (next : A → Plan (Option SaltedKey)) (answer : A) (kind : ErrorKind) (middle : State) (between : ℤ) (old new : Checkpoint)
+    → Reached plan answer old.state middle old.id between → KeySpent (next answer) kind (checkpoint middle between old.ledgers) new → KeySpent (followed_by plan next) kind old new
 spent_after plan next answer kind middle between old new r s =
     elim s [
       | inl early ↦ inl (record { stopped = (early.stopped.0, stopped_second plan next answer kind old.state middle new.state old.id between new.id r early.stopped.1); nothing = early.nothing })

@@ -10,7 +10,7 @@ use Rattle.mongo_command.proofs.FollowedBy.{stopped_first, stopped_second}
 use Rattle.mongo_command.proofs.Steps.{stopped_row}
 use Rattle.mongo_command.proofs.OneSaid.{one_said}
 use Rattle.mongo_command.proofs.Leads.{one_way, no_refusal, only_refusal, reached_led, stopped_led}
-use Rattle.mongo_scram.specs.Costs.{Ledgers, balance}
+use Rattle.mongo_scram.specs.Costs.{Ledgers, checkpoint}
 use Rattle.mongo_establish.specs.declared.establisher.HandshakePhase.{HandshakePhase}
 use Rattle.mongo_establish.specs.declared.establisher.HandshakePhase.TheVariants.{PreHello, PostHello}
 use Rattle.mongo_establish.specs.declared.generation.ConnectionGeneration.{ConnectionGeneration}
@@ -51,7 +51,7 @@ unfolding establishment_plan
 handshake_stops setup kind old new after s = (s.0, stopped_first (handshake_plan setup) (service_plan setup) kind old new setup.first_id after s.1)
 
 -- or at its end
-service_stops : (setup : Setup) (greeting : Greeting) (kind : ErrorKind) (old middle new : State) (between after : ℤ) (first last : Ledgers) → Reached (hello_plan setup) greeting old middle setup.first_id between → UnnamedAfterLogin setup greeting kind (balance middle between first) (balance new after last)
+service_stops : (setup : Setup) (greeting : Greeting) (kind : ErrorKind) (old middle new : State) (between after : ℤ) (first last : Ledgers) → Reached (hello_plan setup) greeting old middle setup.first_id between → UnnamedAfterLogin setup greeting kind (checkpoint middle between first) (checkpoint new after last)
     → Stopped (establishment_plan setup) kind old new setup.first_id after
 unfolding establishment_plan
 service_stops setup greeting kind old middle new between after first last hello u =

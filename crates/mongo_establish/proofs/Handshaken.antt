@@ -9,7 +9,7 @@ use Rattle.mongo_command.specs.declared.server_address.ServerAddress.{ServerAddr
 use Rattle.mongo_command.specs.Connection.{kept_fault}
 use Rattle.mongo_command.specs.Conversation.{Plan, unless, saying, Reached, Stopped}
 use Rattle.mongo_sasl.specs.declared.credential.Credential.{Credential}
-use Rattle.mongo_scram.specs.Costs.{Ledgers, balance}
+use Rattle.mongo_scram.specs.Costs.{Ledgers, checkpoint}
 use Rattle.mongo_establish.specs.declared.establisher.EstablishError.{EstablishError}
 use Rattle.mongo_establish.specs.declared.establisher.HandshakePhase.{HandshakePhase}
 use Rattle.mongo_establish.specs.declared.establisher.HandshakePhase.TheVariants.{PreHello, PostHello}
@@ -70,11 +70,11 @@ module _ (pending : PendingConnection) (options : HandshakerOptions) (credential
       let greeting = s.script.greeting in
       handshake_reached wanted greeting old s.middle new s.between after (hello_reached greeting old s.middle id s.between s.hello) (login_reached greeting s.middle new s.between after s.login)
 
-  shook_login_costs : (connection : Connection) (old new : State) (after : ℤ) (first last : Ledgers) (reply : HelloReply) (s : ShookHands over opened connection old new after first last reply) → LoginCosts wanted s.script.greeting (balance s.middle s.between first) (balance new after last)
-  shook_login_costs connection old new after first last reply s = costs_alike (pending_over opened) pending options credential nonces id id s.script.greeting (balance s.middle s.between first) (balance new after last) s.costs
+  shook_login_costs : (connection : Connection) (old new : State) (after : ℤ) (first last : Ledgers) (reply : HelloReply) (s : ShookHands over opened connection old new after first last reply) → LoginCosts wanted s.script.greeting (checkpoint s.middle s.between first) (checkpoint new after last)
+  shook_login_costs connection old new after first last reply s = costs_alike (pending_over opened) pending options credential nonces id id s.script.greeting (checkpoint s.middle s.between first) (checkpoint new after last) s.costs
 
   -- what was derived and kept
-  pub shook_costs : (connection : Connection) (old new : State) (after : ℤ) (first last : Ledgers) (reply : HelloReply) (s : ShookHands over opened connection old new after first last reply) → HandshakeCosts wanted s.script.greeting (balance old id first) (balance new after last)
+  pub shook_costs : (connection : Connection) (old new : State) (after : ℤ) (first last : Ledgers) (reply : HelloReply) (s : ShookHands over opened connection old new after first last reply) → HandshakeCosts wanted s.script.greeting (checkpoint old id first) (checkpoint new after last)
   shook_costs connection old new after first last reply s = record {
     middle = s.middle;
     between = s.between;
@@ -119,7 +119,7 @@ module _ (pending : PendingConnection) (options : HandshakerOptions) (credential
         generation_is = refl;
         stopped = inl (record {
           login = (kept_fault connection, stopped_alike (pending_over opened) pending options credential nonces id id s.greeting kind s.middle new s.between after s.login);
-          costs = stopped_login_costs_alike (pending_over opened) pending options credential nonces id id s.greeting kind (balance s.middle s.between first) (balance new after last) s.costs;
+          costs = stopped_login_costs_alike (pending_over opened) pending options credential nonces id id s.greeting kind (checkpoint s.middle s.between first) (checkpoint new after last) s.costs;
         });
       })
 

@@ -14,15 +14,15 @@ use Rattle.mongo_sasl.specs.declared.mechanism.AuthMechanism.TheVariants.{MongoD
 use Rattle.mongo_sasl.specs.Mechanism.{IsNegotiated}
 use Rattle.mongo_sasl.specs.Stops.{RefusedAtOnce}
 use Rattle.mongo_sasl.proofs.AtOnce.{at_once_keeping}
-use Rattle.mongo_scram.specs.Costs.{Balance, CostsNothing}
+use Rattle.mongo_scram.specs.Costs.{Checkpoint, CostsNothing}
 use Rattle.mongo_establish.specs.declared.conversation.Conversation.{Conversation}
 use Rattle.mongo_establish.specs.declared.answered_round.AnsweredRound.{AnsweredRound}
 use Rattle.mongo_establish.specs.Setup.{Setup}
 use Rattle.mongo_establish.specs.Costs.{AcceptedCosts, StoppedCosts, LoginCostsOf, LoginCosts, StoppedLoginCostsOf, StoppedLoginCosts}
 use Rattle.mongo_establish.specs.First.{IsRoundBy}
 use Rattle.mongo_establish.specs.Greeting.{Greeting}
-use Rattle.mongo_establish.specs.LoggingIn.{IsCredentialTaken, Conversed, ConversationStopped}
-use Rattle.mongo_establish.specs.Login.{holds_users, logging_in, speculative_reply, IsMechanism, InvalidRow, TakesCredential}
+use Rattle.mongo_establish.specs.LoggingIn.{IsCredentialValid, Conversed, ConversationStopped}
+use Rattle.mongo_establish.specs.Login.{holds_users, logging_in, speculative_reply, IsMechanism, InvalidRow, ValidatesCredential}
 use Rattle.mongo_establish.specs.Plan.{conversation_plan, validated, mechanism_plan, login_by, login_plan}
 use Rattle.mongo_establish.specs.Speculation.{mechanism_before, MechanismRow, SpeaksFor, HelloRow}
 use Rattle.mongo_establish.specs.Spoken.{conversation_of, HasConversation, scram_in, IsScram, IsSpoken}
@@ -35,7 +35,7 @@ pub nobody : (setup : Setup) (greeting : Greeting) (old : State) (before : ℤ) 
 unfolding login_plan
 nobody setup greeting old before is = subst (λ who. Reached (login_by who setup greeting) greeting old old before before) (sym is) (reached_ending greeting old before)
 
-pub nobody_costs : (setup : Setup) (greeting : Greeting) (old : Balance) → logging_in setup greeting ≡ None → CostsNothing old.ledgers old.ledgers → LoginCosts setup greeting old old
+pub nobody_costs : (setup : Setup) (greeting : Greeting) (old : Checkpoint) → logging_in setup greeting ≡ None → CostsNothing old.ledgers old.ledgers → LoginCosts setup greeting old old
 nobody_costs setup greeting old is nothing = subst (λ who. LoginCostsOf who setup greeting old old) (sym is) nothing
 
 unasked : (holds : Bool) (credential : Option Credential) → credential ≡ None → ◌≡◌ {A = Option Credential} (if holds then credential else None) None
@@ -86,8 +86,8 @@ none_is : (reply : Option (List ℕ)) → is_some reply ≡ false → reply ≡ 
 none_is None is = refl
 none_is (Some reply) is = let no : ⊥ = cc in absurd no
 
-takes_it : (reply : Option (List ℕ)) (speculated : Bool) (mechanism : AuthMechanism) (credential : Credential) → speculated ≡ is_some reply → IsCredentialTaken speculated mechanism credential → TakesCredential reply mechanism credential
-takes_it None speculated mechanism credential is taken = subst (λ b. IsCredentialTaken b mechanism credential) is taken
+takes_it : (reply : Option (List ℕ)) (speculated : Bool) (mechanism : AuthMechanism) (credential : Credential) → speculated ≡ is_some reply → IsCredentialValid speculated mechanism credential → ValidatesCredential reply mechanism credential
+takes_it None speculated mechanism credential is taken = subst (λ b. IsCredentialValid b mechanism credential) is taken
 takes_it (Some reply) speculated mechanism credential is taken = tt
 
 -- ---- a mechanism's plan
@@ -136,18 +136,18 @@ module _ (setup : Setup) (greeting : Greeting) (credential : Credential) (round 
   pub invalid_stopped : (kind : ErrorKind) (old : State) (before : ℤ) → is_some round ≡ false → InvalidRow None mechanism credential kind → StoppedKeeping (login_plan setup greeting) kind old old before before None
   invalid_stopped kind old before none row = login_stopped kind old old before before (at_once_keeping (mechanism_plan mechanism setup credential greeting) kind old before (row_refused mechanism conversation setup credential greeting kind has (invalid_row kind none row)))
 
-  pub invalid_costs : (kind : ErrorKind) (old : Balance) → is_some round ≡ false → InvalidRow None mechanism credential kind → CostsNothing old.ledgers old.ledgers → StoppedLoginCosts setup greeting kind old old
+  pub invalid_costs : (kind : ErrorKind) (old : Checkpoint) → is_some round ≡ false → InvalidRow None mechanism credential kind → CostsNothing old.ledgers old.ledgers → StoppedLoginCosts setup greeting kind old old
   invalid_costs kind old none row nothing =
       subst (λ w. StoppedLoginCostsOf w setup greeting kind old old) (sym (a_user setup greeting credential holds who)) (record { mechanism = mechanism; is_mechanism = by_mechanism; costs = inl (invalid_row kind none row, nothing) })
 
-  module _ (taken : IsCredentialTaken (is_some round) mechanism credential) where
+  module _ (taken : IsCredentialValid (is_some round) mechanism credential) where
     no_row : HasNone (InvalidRow (speculative_reply setup greeting) mechanism credential)
     no_row = credential_no_row (speculative_reply setup greeting) mechanism credential (takes_it (speculative_reply setup greeting) (is_some round) mechanism credential went.there taken)
 
-    pub conversed_reached : (old new : Balance) → Conversed conversation setup credential greeting old new → Reached (login_plan setup greeting) greeting old.state new.state old.id new.id
+    pub conversed_reached : (old new : Checkpoint) → Conversed conversation setup credential greeting old new → Reached (login_plan setup greeting) greeting old.state new.state old.id new.id
     conversed_reached old new h = login_reached old.state new.state old.id new.id (validated_reached mechanism conversation setup credential greeting old.state new.state old.id new.id has no_row h.reached)
 
-    pub conversed_costs : (old new : Balance) → Conversed conversation setup credential greeting old new → LoginCosts setup greeting old new
+    pub conversed_costs : (old new : Checkpoint) → Conversed conversation setup credential greeting old new → LoginCosts setup greeting old new
     conversed_costs old new h =
         subst (λ w. LoginCostsOf w setup greeting old new) (sym (a_user setup greeting credential holds who)) (record {
           mechanism = mechanism;
@@ -155,10 +155,10 @@ module _ (setup : Setup) (greeting : Greeting) (credential : Credential) (round 
           costs = subst (λ o. AcceptedCosts (scram_in o) setup credential greeting old new) (sym has) h.costs;
         })
 
-    pub stopped_stopped : {kept : Option ErrorKind} (kind : ErrorKind) (old new : Balance) → ConversationStopped conversation setup credential greeting kind kept old new → StoppedKeeping (login_plan setup greeting) kind old.state new.state old.id new.id kept
+    pub stopped_stopped : {kept : Option ErrorKind} (kind : ErrorKind) (old new : Checkpoint) → ConversationStopped conversation setup credential greeting kind kept old new → StoppedKeeping (login_plan setup greeting) kind old.state new.state old.id new.id kept
     stopped_stopped kind old new h = login_stopped kind old.state new.state old.id new.id (validated_stopped mechanism conversation setup credential greeting kind old.state new.state old.id new.id has no_row h.stopped)
 
-    pub stopped_costs : {kept : Option ErrorKind} (kind : ErrorKind) (old new : Balance) → ConversationStopped conversation setup credential greeting kind kept old new → StoppedLoginCosts setup greeting kind old new
+    pub stopped_costs : {kept : Option ErrorKind} (kind : ErrorKind) (old new : Checkpoint) → ConversationStopped conversation setup credential greeting kind kept old new → StoppedLoginCosts setup greeting kind old new
     stopped_costs kind old new h =
         subst (λ w. StoppedLoginCostsOf w setup greeting kind old new) (sym (a_user setup greeting credential holds who)) (record {
           mechanism = mechanism;

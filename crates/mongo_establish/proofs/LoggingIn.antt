@@ -8,7 +8,7 @@ use Rattle.mongo_command.specs.Connection.{kept_fault}
 use Rattle.mongo_command.specs.Conversation.{HasNone, StoppedKeeping}
 use Rattle.mongo_sasl.specs.declared.credential.Credential.{Credential}
 use Rattle.mongo_sasl.specs.declared.mechanism.AuthMechanism.{AuthMechanism}
-use Rattle.mongo_scram.specs.Costs.{Balance, CostsNothing}
+use Rattle.mongo_scram.specs.Costs.{Checkpoint, CostsNothing}
 use Rattle.mongo_establish.specs.declared.conversation.Conversation.{Conversation}
 use Rattle.mongo_establish.specs.declared.answered_round.AnsweredRound.{AnsweredRound}
 use Rattle.mongo_establish.specs.declared.login_state.Nonces.{Nonces}
@@ -17,7 +17,7 @@ use Rattle.mongo_establish.specs.Setup.{Setup, setup_over}
 use Rattle.mongo_establish.specs.First.{IsRoundBy, IsRoundOf}
 use Rattle.mongo_establish.specs.Greeting.{Greeting}
 use Rattle.mongo_establish.specs.Login.{holds_users, IsMechanism, InvalidRow}
-use Rattle.mongo_establish.specs.LoggingIn.{IsCredentialTaken, Converses, LogsIn, LoginStops}
+use Rattle.mongo_establish.specs.LoggingIn.{IsCredentialValid, Converses, LogsIn, LoginStops}
 use Rattle.mongo_establish.specs.Plan.{login_plan}
 use Rattle.mongo_establish.specs.Speculation.{mechanism_before, SpeaksFor, HelloRow}
 use Rattle.mongo_establish.specs.Spoken.{conversation_of, HasConversation}
@@ -30,7 +30,7 @@ no_row : (conversation : Conversation) → Some conversation ≡ None → ⊥
 no_row conversation is = cc
 
 -- the server holds no users
-pub empty_server : (setup : Setup) (description : StreamDescription) (held : Option StreamDescription) (round : Option AnsweredRound) (old : Balance) → held ≡ Some description → holds_users description.initial_server_type ≡ false → CostsNothing old.ledgers old.ledgers → LogsIn setup held round old old
+pub empty_server : (setup : Setup) (description : StreamDescription) (held : Option StreamDescription) (round : Option AnsweredRound) (old : Checkpoint) → held ≡ Some description → holds_users description.initial_server_type ≡ false → CostsNothing old.ledgers old.ledgers → LogsIn setup held round old old
 empty_server setup description held round old is empty nothing =
     let none : (greeting : Greeting) → held ≡ Some greeting.description → holds_users greeting.description.initial_server_type ≡ false =
     λ greeting described. subst (λ d. holds_users d.initial_server_type ≡ false) (same_description description greeting.description (sym is ∙ described)) empty in
@@ -40,7 +40,7 @@ empty_server setup description held round old is empty nothing =
     }
 
 -- there is no credential
-pub no_login : (setup : Setup) (held : Option StreamDescription) (round : Option AnsweredRound) (old : Balance) → setup.credential ≡ None → CostsNothing old.ledgers old.ledgers → LogsIn setup held round old old
+pub no_login : (setup : Setup) (held : Option StreamDescription) (round : Option AnsweredRound) (old : Checkpoint) → setup.credential ≡ None → CostsNothing old.ledgers old.ledgers → LogsIn setup held round old old
 no_login setup held round old none nothing = record {
   reached = λ greeting described r. nobody setup greeting old.state old.id (no_credential setup greeting none);
   costs = λ greeting described r. nobody_costs setup greeting old (no_credential setup greeting none) nothing;
@@ -81,7 +81,7 @@ module _ (opened : Connection) (options : HandshakerOptions) (given : Option Cre
   went greeting r = subst (λ c. IsRoundOf c setup greeting round) who r
 
   -- the mechanism doesn't take the credential
-  pub log_in_invalid : {T : Type 0} (r : Result T Error) (kept : Option ErrorKind) (old : Balance) → kept ≡ None → CostsNothing old.ledgers old.ledgers → IfErr r (λ e. (is_some round ≡ false) × InvalidRow None mechanism credential e.kind)
+  pub log_in_invalid : {T : Type 0} (r : Result T Error) (kept : Option ErrorKind) (old : Checkpoint) → kept ≡ None → CostsNothing old.ledgers old.ledgers → IfErr r (λ e. (is_some round ≡ false) × InvalidRow None mechanism credential e.kind)
       → IfErr r (λ e. LoginStops setup held round e.kind kept old old)
   log_in_invalid (Ok x) kept old none nothing h = tt
   log_in_invalid (Err e) kept old none nothing h = record {
@@ -89,7 +89,7 @@ module _ (opened : Connection) (options : HandshakerOptions) (given : Option Cre
     costs = λ greeting described r. invalid_costs setup greeting credential round mechanism who (users greeting described) (went greeting r) (greeted_mechanism greeting described) found.0 found.1 e.kind old h.0 h.1 nothing;
   }
 
-  module _ (taken : IsCredentialTaken (is_some round) mechanism credential) (conversation : Conversation) (has : HasConversation mechanism conversation) where
+  module _ (taken : IsCredentialValid (is_some round) mechanism credential) (conversation : Conversation) (has : HasConversation mechanism conversation) where
     -- its round is the conversation's
     abbrev by_it : (greeting : Greeting) → held ≡ Some greeting.description → IsRoundOf setup.credential setup greeting round → IsRoundBy (Some conversation) credential setup greeting round
     by_it greeting described r = went_by setup greeting credential round mechanism who (users greeting described) (went greeting r) (greeted_mechanism greeting described) conversation has
@@ -97,11 +97,11 @@ module _ (opened : Connection) (options : HandshakerOptions) (given : Option Cre
     abbrev this : Option Credential → Setup
     this c = setup_over opened options c nonces id
 
-    here : (r : Result (Unit {0}) Error) (left : Connection) (old new : Balance) → Converses r conversation (this (Some credential)) credential round opened left old new → Converses r conversation setup credential round opened left old new
+    here : (r : Result (Unit {0}) Error) (left : Connection) (old new : Checkpoint) → Converses r conversation (this (Some credential)) credential round opened left old new → Converses r conversation setup credential round opened left old new
     here r left old new h = subst (λ c. Converses r conversation (this c) credential round opened left old new) (sym who) h
 
     -- its conversation was followed to its end
-    pub log_in_accepted : (r : Result (Unit {0}) Error) (left : Connection) (old new : Balance) → Converses r conversation (this (Some credential)) credential round opened left old new → OnOk r (LogsIn setup held round old new)
+    pub log_in_accepted : (r : Result (Unit {0}) Error) (left : Connection) (old new : Checkpoint) → Converses r conversation (this (Some credential)) credential round opened left old new → OnOk r (LogsIn setup held round old new)
     log_in_accepted (Ok done) left old new h =
         let conversed = (here (Ok done) left old new h).accepted in
         record {
@@ -111,7 +111,7 @@ module _ (opened : Connection) (options : HandshakerOptions) (given : Option Cre
     log_in_accepted (Err e) left old new h = tt
 
     -- it was stopped
-    pub log_in_stopped : (r : Result (Unit {0}) Error) (left : Connection) (old new : Balance) → Converses r conversation (this (Some credential)) credential round opened left old new → IfErr r (λ e. LoginStops setup held round e.kind (kept_fault left) old new)
+    pub log_in_stopped : (r : Result (Unit {0}) Error) (left : Connection) (old new : Checkpoint) → Converses r conversation (this (Some credential)) credential round opened left old new → IfErr r (λ e. LoginStops setup held round e.kind (kept_fault left) old new)
     log_in_stopped (Ok done) left old new h = tt
     log_in_stopped (Err e) left old new h =
         let stopped = (here (Err e) left old new h).refused in

@@ -8,7 +8,7 @@ use Rattle.mongo_command.proofs.Steps.{reached_more, stopped_more}
 use Rattle.mongo_sasl.specs.declared.credential.Credential.{Credential}
 use Rattle.mongo_sasl.specs.declared.mechanism.AuthMechanism.{AuthMechanism}
 use Rattle.mongo_scram.specs.declared.scram_version.ScramVersion.{ScramVersion}
-use Rattle.mongo_scram.specs.Costs.{Balance}
+use Rattle.mongo_scram.specs.Costs.{Checkpoint}
 use Rattle.mongo_establish.specs.declared.conversation.Conversation.{Conversation}
 use Rattle.mongo_establish.specs.declared.establisher.PendingConnection.{PendingConnection}
 use Rattle.mongo_establish.specs.declared.generation.PoolGeneration.TheVariants.{Normal}
@@ -54,25 +54,25 @@ module _ (first second : PendingConnection) (options : HandshakerOptions) (crede
 
   -- ---- and so is what it costs
 
-  scram_costs_alike : (version : ScramVersion) (c : Credential) (greeting : Greeting) (old new : Balance) → ScramAccepted version this c greeting old new → ScramAccepted version that c greeting old new
+  scram_costs_alike : (version : ScramVersion) (c : Credential) (greeting : Greeting) (old new : Checkpoint) → ScramAccepted version this c greeting old new → ScramAccepted version that c greeting old new
   scram_costs_alike version c greeting old new h = record { buffer = h.buffer; accepted = h.accepted }
 
-  accepted_costs_alike : (version : Option ScramVersion) (c : Credential) (greeting : Greeting) (old new : Balance) → AcceptedCosts version this c greeting old new → AcceptedCosts version that c greeting old new
+  accepted_costs_alike : (version : Option ScramVersion) (c : Credential) (greeting : Greeting) (old new : Checkpoint) → AcceptedCosts version this c greeting old new → AcceptedCosts version that c greeting old new
   accepted_costs_alike (Some version) c greeting old new h = scram_costs_alike version c greeting old new h
   accepted_costs_alike None c greeting old new h = h
 
-  stopped_costs_alike : (version : Option ScramVersion) (c : Credential) (greeting : Greeting) (kind : ErrorKind) (old new : Balance) → StoppedCosts version this c greeting kind old new → StoppedCosts version that c greeting kind old new
+  stopped_costs_alike : (version : Option ScramVersion) (c : Credential) (greeting : Greeting) (kind : ErrorKind) (old new : Checkpoint) → StoppedCosts version this c greeting kind old new → StoppedCosts version that c greeting kind old new
   stopped_costs_alike (Some version) c greeting kind old new h = h
   stopped_costs_alike None c greeting kind old new h = h
 
-  costs_of_alike : (who : Option Credential) (greeting : Greeting) (old new : Balance) → LoginCostsOf who this greeting old new → LoginCostsOf who that greeting old new
+  costs_of_alike : (who : Option Credential) (greeting : Greeting) (old new : Checkpoint) → LoginCostsOf who this greeting old new → LoginCostsOf who that greeting old new
   costs_of_alike None greeting old new h = h
   costs_of_alike (Some c) greeting old new h = record { mechanism = h.mechanism; is_mechanism = h.is_mechanism; costs = accepted_costs_alike (scram_in (conversation_of h.mechanism)) c greeting old new h.costs }
 
-  pub costs_alike : (greeting : Greeting) (old new : Balance) → LoginCosts this greeting old new → LoginCosts that greeting old new
+  pub costs_alike : (greeting : Greeting) (old new : Checkpoint) → LoginCosts this greeting old new → LoginCosts that greeting old new
   costs_alike greeting old new h = costs_of_alike (logging_in that greeting) greeting old new h
 
-  stopped_costs_of_alike : (who : Option Credential) (greeting : Greeting) (kind : ErrorKind) (old new : Balance) → StoppedLoginCostsOf who this greeting kind old new → StoppedLoginCostsOf who that greeting kind old new
+  stopped_costs_of_alike : (who : Option Credential) (greeting : Greeting) (kind : ErrorKind) (old new : Checkpoint) → StoppedLoginCostsOf who this greeting kind old new → StoppedLoginCostsOf who that greeting kind old new
   stopped_costs_of_alike None greeting kind old new h = h
   stopped_costs_of_alike (Some c) greeting kind old new h = record {
     mechanism = h.mechanism;
@@ -80,5 +80,5 @@ module _ (first second : PendingConnection) (options : HandshakerOptions) (crede
     costs = elim h.costs [ inl row ↦ inl row | inr stopped ↦ inr (stopped_costs_alike (scram_in (conversation_of h.mechanism)) c greeting kind old new stopped) ];
   }
 
-  pub stopped_login_costs_alike : (greeting : Greeting) (kind : ErrorKind) (old new : Balance) → StoppedLoginCosts this greeting kind old new → StoppedLoginCosts that greeting kind old new
+  pub stopped_login_costs_alike : (greeting : Greeting) (kind : ErrorKind) (old new : Checkpoint) → StoppedLoginCosts this greeting kind old new → StoppedLoginCosts that greeting kind old new
   stopped_login_costs_alike greeting kind old new h = stopped_costs_of_alike (logging_in that greeting) greeting kind old new h

@@ -15,7 +15,7 @@ use Rattle.mongo_sasl.specs.declared.credential.Credential.{Credential}
 use Rattle.mongo_sasl.specs.Stops.{RefusedAtOnce}
 use Rattle.mongo_sasl.proofs.AtOnce.{at_once_more, at_once_keeping}
 use Rattle.mongo_scram.specs.Client.{speculated_of}
-use Rattle.mongo_scram.specs.Costs.{Ledgers, balance, CostsNothing}
+use Rattle.mongo_scram.specs.Costs.{Ledgers, checkpoint, CostsNothing}
 use Rattle.mongo_establish.specs.declared.client_first.ClientFirst.{ClientFirst}
 use Rattle.mongo_establish.specs.declared.answered_round.AnsweredRound.{AnsweredRound}
 use Rattle.mongo_establish.specs.declared.login_state.Nonces.{Nonces}
@@ -130,7 +130,7 @@ module _ (opened : Connection) (options : HandshakerOptions) (credential : Optio
           }
 
       pub login_stopped : {T : Type 0} (r : Result T Error) (connection : Connection) (new : State) (after : ℤ) (first last : Ledgers) → KeepsRest described connection
-          → IfErr r (λ e. LoginStops anew described.stream_description round e.kind (kept_fault connection) (balance middle between first) (balance new after last)) → IfErr r (λ e. StoppedHandshake setup opened connection e.kind old new after first last)
+          → IfErr r (λ e. LoginStops anew described.stream_description round e.kind (kept_fault connection) (checkpoint middle between first) (checkpoint new after last)) → IfErr r (λ e. StoppedHandshake setup opened connection e.kind old new after first last)
       login_stopped (Ok x) connection new after first last later h = tt
       login_stopped (Err e) connection new after first last later h = inr (record {
         greeting = greeting;
@@ -138,7 +138,7 @@ module _ (opened : Connection) (options : HandshakerOptions) (credential : Optio
         between = between;
         hello = hello_reached;
         login = stopped_alike (pending_over described) (pending_over opened) options credential nonces between id greeting e.kind middle new between after (h.stopped greeting greeted.described.holds.description_is held_round);
-        costs = stopped_login_costs_alike (pending_over described) (pending_over opened) options credential nonces between id greeting e.kind (balance middle between first) (balance new after last) (h.costs greeting greeted.described.holds.description_is held_round);
+        costs = stopped_login_costs_alike (pending_over described) (pending_over opened) options credential nonces between id greeting e.kind (checkpoint middle between first) (checkpoint new after last) (h.costs greeting greeted.described.holds.description_is held_round);
         held = held connection later;
       })
 
@@ -155,7 +155,7 @@ module _ (opened : Connection) (options : HandshakerOptions) (credential : Optio
           })
 
       pub shook : (connection : Connection) (new : State) (after : ℤ) (first last : Ledgers) (answer : HelloReply) → KeepsRest described connection → kept_fault connection ≡ None → answer ≡ taken_out reply sent
-          → LogsIn anew described.stream_description round (balance middle between first) (balance new after last) → ShookHands setup opened connection old new after first last answer
+          → LogsIn anew described.stream_description round (checkpoint middle between first) (checkpoint new after last) → ShookHands setup opened connection old new after first last answer
       shook connection new after first last answer later faultless is h =
           let login = reached_alike (pending_over described) (pending_over opened) options credential nonces between id greeting middle new between after (h.reached greeting greeted.described.holds.description_is held_round) in
           let whole = handshake_reached setup greeting old middle new between after hello_reached login in
@@ -166,7 +166,7 @@ module _ (opened : Connection) (options : HandshakerOptions) (credential : Optio
             between = between;
             hello = hello_reached;
             login = login;
-            costs = costs_alike (pending_over described) (pending_over opened) options credential nonces between id greeting (balance middle between first) (balance new after last) (h.costs greeting greeted.described.holds.description_is held_round);
+            costs = costs_alike (pending_over described) (pending_over opened) options credential nonces between id greeting (checkpoint middle between first) (checkpoint new after last) (h.costs greeting greeted.described.holds.description_is held_round);
             described = record { holds = held connection later; faultless = faultless };
             reply_is = is_reply answer is;
           }

@@ -14,7 +14,7 @@ use Rattle.mongo_scram.specs.declared.scram_version.ScramVersion.{ScramVersion}
 use Rattle.mongo_scram.specs.User.{User, IsUser}
 use Rattle.mongo_establish.specs.declared.conversation.Conversation.{Conversation}
 use Rattle.mongo_establish.specs.declared.conversation.Conversation.TheVariants.{Scram}
-use Rattle.mongo_establish.specs.Login.{InvalidRow, TakesCredential}
+use Rattle.mongo_establish.specs.Login.{InvalidRow, ValidatesCredential}
 use Rattle.mongo_establish.specs.Spoken.{HasConversation}
 
 same_fault : (a b : ArgumentFault) → ◌≡◌ {A = Result (Unit {0}) ArgumentFault} (Err a) (Err b) → a ≡ b
@@ -32,7 +32,7 @@ one_invalid_row None mechanism credential kind other p q = absurd p
 one_invalid_row (Some reply) mechanism credential kind other p q = absurd p
 
 -- a credential that is taken has no row
-pub credential_no_row : (reply : Option (List ℕ)) (mechanism : AuthMechanism) (credential : Credential) → TakesCredential reply mechanism credential → HasNone (InvalidRow reply mechanism credential)
+pub credential_no_row : (reply : Option (List ℕ)) (mechanism : AuthMechanism) (credential : Credential) → ValidatesCredential reply mechanism credential → HasNone (InvalidRow reply mechanism credential)
 credential_no_row None mechanism credential taken (InvalidArgument fault) row = not_both fault (one_answer mechanism credential false (Err fault) (Ok tt) row taken)
 credential_no_row None mechanism credential taken kind row = row
 credential_no_row (Some reply) mechanism credential taken kind row = row
@@ -48,7 +48,7 @@ ok_by mechanism credential (Ok done) is none = is
 ok_by mechanism credential (Err fault) is none = absurd (none fault is)
 
 -- and one that has none is taken
-pub no_row_taken : (reply : Option (List ℕ)) (mechanism : AuthMechanism) (conversation : Conversation) (credential : Credential) → HasConversation mechanism conversation → HasNone (InvalidRow reply mechanism credential) → TakesCredential reply mechanism credential
+pub no_row_taken : (reply : Option (List ℕ)) (mechanism : AuthMechanism) (conversation : Conversation) (credential : Credential) → HasConversation mechanism conversation → HasNone (InvalidRow reply mechanism credential) → ValidatesCredential reply mechanism credential
 no_row_taken None mechanism conversation credential has none =
     let answer = has_answer mechanism credential false (reads_no_properties mechanism conversation has) in
     ok_by mechanism credential answer.0 answer.1 (λ fault row. none (InvalidArgument fault) row)
@@ -65,7 +65,7 @@ user_validated ScramSha1 version credential user has is = user_has_name credenti
 user_validated ScramSha256 version credential user has is = user_has_name credential user is
 user_validated mechanism version credential user has is = let no : ⊥ = cc in absurd no
 
-user_taken : (reply : Option (List ℕ)) (mechanism : AuthMechanism) (version : ScramVersion) (credential : Credential) (user : User) → HasConversation mechanism (Scram version) → IsUser credential user → TakesCredential reply mechanism credential
+user_taken : (reply : Option (List ℕ)) (mechanism : AuthMechanism) (version : ScramVersion) (credential : Credential) (user : User) → HasConversation mechanism (Scram version) → IsUser credential user → ValidatesCredential reply mechanism credential
 user_taken None mechanism version credential user has is = user_validated mechanism version credential user has is
 user_taken (Some reply) mechanism version credential user has is = tt
 

@@ -12,18 +12,18 @@ use Rattle.mongo_establish.specs.Login.{LoginHanded, scram_handed}
 
 -- a conversation as a part of a login: its plan, whose answer isn't looked at, and which commands and replies hold it
 pub record LoginPart : Type 1 where
-  pub Answer : Type 0
-  pub plan : Plan Answer
+  pub End : Type 0
+  pub plan : Plan End
   pub holds : List (List ℕ) → List (List ℕ) → Type 0
 
 -- the table: what each is handed, and what it is by that
 abbrev pub login_part : Conversation → LoginHanded → LoginPart
 login_part (Scram version) handed =
     let scram = scram_handed version handed in
-    record { Answer = Challenge; plan = scram_plan scram; holds = IsScramLogin scram }
+    record { End = Challenge; plan = scram_plan scram; holds = IsScramLogin scram }
 login_part PlainText handed =
     let plain = plain_handed handed.credential handed.options.auth_options.server_api handed.maximum in
-    record { Answer = Unit {0}; plan = plain_plan plain; holds = IsPlainLogin plain }
+    record { End = Unit {0}; plan = plain_plan plain; holds = IsPlainLogin plain }
 login_part X509 handed =
     let x509 = x509_handed handed.credential handed.options.auth_options.server_api (is_some handed.reply) handed.maximum in
-    record { Answer = Unit {0}; plan = x509_plan x509; holds = IsX509Login x509 }
+    record { End = Unit {0}; plan = x509_plan x509; holds = IsX509Login x509 }

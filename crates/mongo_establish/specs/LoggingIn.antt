@@ -10,7 +10,7 @@ use Rattle.mongo_command.specs.Exchange.{CountsStay}
 use Rattle.mongo_sasl.specs.declared.credential.Credential.{Credential}
 use Rattle.mongo_sasl.specs.declared.mechanism.AuthMechanism.{AuthMechanism}
 use Rattle.mongo_sasl.specs.Validation.{IsValidated}
-use Rattle.mongo_scram.specs.Costs.{Balance, SameEntries}
+use Rattle.mongo_scram.specs.Costs.{Checkpoint, SameEntries}
 use Rattle.mongo_establish.specs.declared.conversation.Conversation.{Conversation}
 use Rattle.mongo_establish.specs.declared.answered_round.AnsweredRound.{AnsweredRound}
 use Rattle.mongo_establish.specs.Setup.{Setup}
@@ -23,17 +23,17 @@ use Rattle.mongo_establish.specs.Spoken.{scram_in}
 -- ---- a conversation
 
 -- it was followed to its end, and cost this
-pub record Conversed (conversation : Conversation) (setup : Setup) (credential : Credential) (greeting : Greeting) (old new : Balance) : Type 0 where
+pub record Conversed (conversation : Conversation) (setup : Setup) (credential : Credential) (greeting : Greeting) (old new : Checkpoint) : Type 0 where
   pub reached : Reached (conversation_plan conversation setup credential greeting) greeting old.state new.state old.id new.id
   pub costs : AcceptedCosts (scram_in (Some conversation)) setup credential greeting old new
 
 -- it was stopped, which leaves the connection to keep this
-pub record ConversationStopped (conversation : Conversation) (setup : Setup) (credential : Credential) (greeting : Greeting) (kind : ErrorKind) (kept : Option ErrorKind) (old new : Balance) : Type 0 where
+pub record ConversationStopped (conversation : Conversation) (setup : Setup) (credential : Credential) (greeting : Greeting) (kind : ErrorKind) (kept : Option ErrorKind) (old new : Checkpoint) : Type 0 where
   pub stopped : StoppedKeeping (conversation_plan conversation setup credential greeting) kind old.state new.state old.id new.id kept
   pub costs : StoppedCosts (scram_in (Some conversation)) setup credential greeting kind old new
 
 -- what an answer means and leaves, by each greeting that says what the connection holds and what the first round is
-pub record Converses (result : Result (Unit {0}) Error) (conversation : Conversation) (setup : Setup) (credential : Credential) (round : Option AnsweredRound) (opened left : Connection) (old new : Balance) : Type 0 where
+pub record Converses (result : Result (Unit {0}) Error) (conversation : Conversation) (setup : Setup) (credential : Credential) (round : Option AnsweredRound) (opened left : Connection) (old new : Checkpoint) : Type 0 where
   pub accepted : (greeting : Greeting) → opened.stream_description ≡ Some greeting.description → IsRoundBy (Some conversation) credential setup greeting round → OnOk result (Conversed conversation setup credential greeting old new)
   pub refused : (greeting : Greeting) → opened.stream_description ≡ Some greeting.description → IsRoundBy (Some conversation) credential setup greeting round → IfErr result (λ e. ConversationStopped conversation setup credential greeting e.kind (kept_fault left) old new)
   -- an accepted one leaves the connection without a fault
@@ -47,16 +47,16 @@ pub record Converses (result : Result (Unit {0}) Error) (conversation : Conversa
 -- ---- a login
 
 -- the mechanism takes the credential, where it is asked
-abbrev pub IsCredentialTaken : Bool → AuthMechanism → Credential → Type 0
-IsCredentialTaken true mechanism credential = ⊤
-IsCredentialTaken false mechanism credential = IsValidated mechanism credential false (Ok tt)
+abbrev pub IsCredentialValid : Bool → AuthMechanism → Credential → Type 0
+IsCredentialValid true mechanism credential = ⊤
+IsCredentialValid false mechanism credential = IsValidated mechanism credential false (Ok tt)
 
 -- the login of each greeting that says so was followed to its end
-pub record LogsIn (setup : Setup) (held : Option StreamDescription) (round : Option AnsweredRound) (old new : Balance) : Type 0 where
+pub record LogsIn (setup : Setup) (held : Option StreamDescription) (round : Option AnsweredRound) (old new : Checkpoint) : Type 0 where
   pub reached : (greeting : Greeting) → held ≡ Some greeting.description → IsRoundOf setup.credential setup greeting round → Reached (login_plan setup greeting) greeting old.state new.state old.id new.id
   pub costs : (greeting : Greeting) → held ≡ Some greeting.description → IsRoundOf setup.credential setup greeting round → LoginCosts setup greeting old new
 
 -- it was stopped, which leaves the connection to keep this
-pub record LoginStops (setup : Setup) (held : Option StreamDescription) (round : Option AnsweredRound) (kind : ErrorKind) (kept : Option ErrorKind) (old new : Balance) : Type 0 where
+pub record LoginStops (setup : Setup) (held : Option StreamDescription) (round : Option AnsweredRound) (kind : ErrorKind) (kept : Option ErrorKind) (old new : Checkpoint) : Type 0 where
   pub stopped : (greeting : Greeting) → held ≡ Some greeting.description → IsRoundOf setup.credential setup greeting round → StoppedKeeping (login_plan setup greeting) kind old.state new.state old.id new.id kept
   pub costs : (greeting : Greeting) → held ≡ Some greeting.description → IsRoundOf setup.credential setup greeting round → StoppedLoginCosts setup greeting kind old new

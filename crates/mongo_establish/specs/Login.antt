@@ -45,9 +45,9 @@ InvalidRow None mechanism credential (InvalidArgument fault) = IsValidated mecha
 InvalidRow reply mechanism credential kind = ⊥
 
 -- the mechanism takes the credential, or isn't asked
-abbrev pub TakesCredential : Option (List ℕ) → AuthMechanism → Credential → Type 0
-TakesCredential None mechanism credential = IsValidated mechanism credential false (Ok tt)
-TakesCredential (Some reply) mechanism credential = ⊤
+abbrev pub ValidatesCredential : Option (List ℕ) → AuthMechanism → Credential → Type 0
+ValidatesCredential None mechanism credential = IsValidated mechanism credential false (Ok tt)
+ValidatesCredential (Some reply) mechanism credential = ⊤
 
 -- ---- what a conversation is handed
 

@@ -3,7 +3,7 @@ use Rattle.std.specs.Prelude.{◌≡◌, ℕ, ℤ, ◌⊎◌, List}
 use Rattle.mongo_wire.specs.declared.error.ErrorKind.{ErrorKind}
 use Rattle.mongo_wire.specs.Outside.{State}
 use Rattle.mongo_command.specs.Conversation.{Said, refuses, ends, Reached, Stopped, Leads}
-use Rattle.mongo_scram.specs.Costs.{Ledgers, Balance, balance, CostsNothing}
+use Rattle.mongo_scram.specs.Costs.{Ledgers, Checkpoint, checkpoint, CostsNothing}
 use Rattle.mongo_establish.specs.declared.generation.ConnectionGeneration.{ConnectionGeneration}
 use Rattle.mongo_establish.specs.declared.establisher.HandshakePhase.{HandshakePhase}
 use Rattle.mongo_establish.specs.declared.establisher.HandshakePhase.TheVariants.{PreHello, PostHello}
@@ -17,12 +17,12 @@ use Rattle.mongo_establish.specs.Refusal.{NoService}
 -- ---- what a call did
 
 -- the login was stopped, and cost this
-pub record LoginRefused (setup : Setup) (greeting : Greeting) (kind : ErrorKind) (old new : Balance) : Type 0 where
+pub record LoginRefused (setup : Setup) (greeting : Greeting) (kind : ErrorKind) (old new : Checkpoint) : Type 0 where
   pub login : Stopped (login_plan setup greeting) kind old.state new.state old.id new.id
   pub costs : StoppedLoginCosts setup greeting kind old new
 
 -- it was followed to its end, and cost this, and then the server had named no service
-pub record UnnamedAfterLogin (setup : Setup) (greeting : Greeting) (kind : ErrorKind) (old new : Balance) : Type 0 where
+pub record UnnamedAfterLogin (setup : Setup) (greeting : Greeting) (kind : ErrorKind) (old new : Checkpoint) : Type 0 where
   pub login : Reached (login_plan setup greeting) greeting old.state new.state old.id new.id
   pub costs : LoginCosts setup greeting old new
   pub unnamed : NoService setup.pending.generation greeting.description kind
@@ -34,7 +34,7 @@ pub record StoppedAfterHello (setup : Setup) (generation : ConnectionGeneration)
   pub between : ℤ
   pub hello : Reached (hello_plan setup) greeting old middle setup.first_id between
   pub generation_is : generation ≡ generation_of setup.pending.generation greeting.description
-  pub stopped : LoginRefused setup greeting kind (balance middle between first) (balance new after last) ⊎ UnnamedAfterLogin setup greeting kind (balance middle between first) (balance new after last)
+  pub stopped : LoginRefused setup greeting kind (checkpoint middle between first) (checkpoint new after last) ⊎ UnnamedAfterLogin setup greeting kind (checkpoint middle between first) (checkpoint new after last)
 
 -- The phase says which part was stopped: the hello, with the pool's generation, which costs nothing, or what follows it, with
 -- the connection's.

@@ -5,11 +5,11 @@ ghost use Rattle.mongo_wire.specs.declared.error.ErrorKind.{ErrorKind};
 ghost use Rattle.mongo_command.specs.Connection.{kept_fault, KeepsRest};
 ghost use Rattle.mongo_command.specs.Exchange.{CountsStay};
 ghost use Rattle.mongo_scram.specs.Cache.{entries_of};
-ghost use Rattle.mongo_scram.specs.Costs.{ledgers, balance};
+ghost use Rattle.mongo_scram.specs.Costs.{ledgers, checkpoint};
 ghost use Rattle.mongo_establish.specs.declared.conversation.Conversation.TheVariants.{Scram};
 ghost use Rattle.mongo_establish.specs.Setup.{setup_over};
 ghost use Rattle.mongo_establish.specs.Login.{holds_users, IsMechanism, InvalidRow};
-ghost use Rattle.mongo_establish.specs.LoggingIn.{Converses, IsCredentialTaken, LogsIn, LoginStops};
+ghost use Rattle.mongo_establish.specs.LoggingIn.{Converses, IsCredentialValid, LogsIn, LoginStops};
 ghost use Rattle.mongo_establish.specs.Speculation.{HelloRow, SpeaksFor};
 
 use crate::answered_round::{AnsweredRound, scram_round};
@@ -39,9 +39,9 @@ pub(crate) fn log_in<L: Link, G: Ledger>(
     requires described { IsSome connection.old.stream_description }
     requires faultless { kept_fault connection.old ≡ None }
     ensures logged_in { OnOk result (LogsIn (setup_over connection.old options.now (option_copied credential.entry) inputs.now.nonces state.old.ids) connection.old.stream_description round
-        (balance (L.state link.old) state.old.ids (ledgers steps.old state.old.salted)) (balance (L.state link.new) state.new.ids (ledgers steps.new state.new.salted))) }
+        (checkpoint (L.state link.old) state.old.ids (ledgers steps.old state.old.salted)) (checkpoint (L.state link.new) state.new.ids (ledgers steps.new state.new.salted))) }
     ensures refused { IfErr result (λ e. LoginStops (setup_over connection.old options.now (option_copied credential.entry) inputs.now.nonces state.old.ids) connection.old.stream_description round e.kind (kept_fault connection.new)
-        (balance (L.state link.old) state.old.ids (ledgers steps.old state.old.salted)) (balance (L.state link.new) state.new.ids (ledgers steps.new state.new.salted))) }
+        (checkpoint (L.state link.old) state.old.ids (ledgers steps.old state.old.salted)) (checkpoint (L.state link.new) state.new.ids (ledgers steps.new state.new.salted))) }
     ensures entries { OnErr result (entries_of state.new.salted ≡ entries_of state.old.salted) }
     ensures connection { KeepsRest connection.old connection.new }
     ensures faultless { OnOk result (kept_fault connection.new ≡ None) }
@@ -89,7 +89,7 @@ fn converse<L: Link, G: Ledger>(
 ) -> Result<(), Error>
     requires faultless { kept_fault connection.old ≡ None }
     ensures converses { Converses result conversation (setup_over connection.old options.now (Some credential.now) inputs.now.nonces state.old.ids) credential.now round connection.old connection.new
-        (balance (L.state link.old) state.old.ids (ledgers steps.old state.old.salted)) (balance (L.state link.new) state.new.ids (ledgers steps.new state.new.salted)) }
+        (checkpoint (L.state link.old) state.old.ids (ledgers steps.old state.old.salted)) (checkpoint (L.state link.new) state.new.ids (ledgers steps.new state.new.salted)) }
 {
     let api = options.auth_options.server_api.as_ref();
     let mut buffer = FrameBuffer::new(alloc);
@@ -145,7 +145,7 @@ fn by_scram<L: Link, G: Ledger>(
 ) -> Result<(), Error>
     requires faultless { kept_fault connection.old ≡ None }
     ensures converses { Converses result (Scram version) (setup_over connection.old options.now (Some credential.now) inputs.now.nonces state.old.ids) credential.now round connection.old connection.new
-        (balance (L.state link.old) state.old.ids (ledgers steps.old state.old.salted)) (balance (L.state link.new) state.new.ids (ledgers steps.new state.new.salted)) }
+        (checkpoint (L.state link.old) state.old.ids (ledgers steps.old state.old.salted)) (checkpoint (L.state link.new) state.new.ids (ledgers steps.new state.new.salted)) }
 {
     version.authenticate_stream(
         alloc,
@@ -190,7 +190,7 @@ fn validate(
     speculated: bool,
 ) -> Result<(), Error>
     ensures refused { IfErr result (λ e. (speculated ≡ false) × InvalidRow None mechanism credential.now e.kind) }
-    ensures taken { OnOk result (IsCredentialTaken speculated mechanism credential.now) }
+    ensures taken { OnOk result (IsCredentialValid speculated mechanism credential.now) }
 {
     if speculated {
         return Ok(());

@@ -37,7 +37,7 @@ use Rattle.mongo_establish.specs.Client.{hello_document}
 use Rattle.mongo_establish.specs.Derivation.{scram_derivation, derivation_by, login_derivation, derivation_plan, LeadsToKey}
 use Rattle.mongo_establish.specs.Generation.{NamesService}
 use Rattle.mongo_establish.specs.Greeting.{Greeting, Greets}
-use Rattle.mongo_establish.specs.Login.{speculative_reply, scram_handed_by, InvalidRow, TakesCredential}
+use Rattle.mongo_establish.specs.Login.{speculative_reply, scram_handed_by, InvalidRow, ValidatesCredential}
 use Rattle.mongo_establish.specs.Options.{default_max_iterations}
 use Rattle.mongo_establish.specs.Plan.{hello_said, hello_plan}
 use Rattle.mongo_establish.specs.Script.{Script, IsLoginBy, IsScript, HasScript}
@@ -72,7 +72,7 @@ has_scram Sha256 = refl
 login_answered_in_hello : (version : ScramVersion) (setup : Setup) (credential : Credential) (greeting : Greeting) (given : List ℕ) (commands replies : List (List ℕ)) → speculative_reply setup greeting ≡ Some given → IsScramLogin (scram_handed_by version setup credential greeting) commands replies
     → IsLoginBy (mechanism_of version) setup credential greeting commands replies
 login_answered_in_hello version setup credential greeting given commands replies is login = record {
-  taken = subst (λ reply. TakesCredential reply (mechanism_of version) credential) (sym is) tt;
+  taken = subst (λ reply. ValidatesCredential reply (mechanism_of version) credential) (sym is) tt;
   conversation = Scram version;
   has_conversation = has_scram version;
   holds = login;

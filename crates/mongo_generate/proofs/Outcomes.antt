@@ -18,7 +18,7 @@ use Rattle.mongo_establish.specs.declared.options.HandshakerOptions.{HandshakerO
 use Rattle.mongo_establish.specs.Setup.{Setup, setup_for}
 use Rattle.mongo_establish.specs.Derivation.{LeadsToKey}
 use Rattle.mongo_establish.specs.Established.{Established}
-use Rattle.mongo_establish.specs.KeyCosts.{TakesKey, AcceptedTakes, CostsOver}
+use Rattle.mongo_establish.specs.KeyCosts.{StoresKey, AcceptedKeyCosts, CostsOver}
 use Rattle.mongo_establish.specs.Script.{HasScript}
 use Rattle.mongo_establish.proofs.Counting.{CostsSome, taken_as_led}
 use Rattle.mongo_establish.proofs.Establishment.{one_script}
@@ -75,12 +75,12 @@ module _ (pending : PendingConnection) (options : HandshakerOptions) (first_id :
   accepted_writes (Err e) old new after earlier later written is none told nothing all = absurd is
 
   -- and its key was taken
-  pub takes_key : (before after : Ledgers) (pooled : PooledConnection) → CostsOver (Ok pooled) setup bytes before after → TakesKey (key_of x) before after
+  pub takes_key : (before after : Ledgers) (pooled : PooledConnection) → CostsOver (Ok pooled) setup bytes before after → StoresKey (key_of x) before after
   takes_key before after pooled costs =
-      taken_as_led setup bytes (λ key. AcceptedTakes key before after) (Some (key_of x)) costs
+      taken_as_led setup bytes (λ key. AcceptedKeyCosts key before after) (Some (key_of x)) costs
       (subst (λ a. LeadsToKey a bytes (Some (key_of x))) (sym same) (leads_to_key pending x login.inputs.nonces bytes logs.possible logs.nonce_is pool heard))
 
-  pub accepted_takes : (ended : Result PooledConnection EstablishError) (before after : Ledgers) → IsAcceptedAs ended true → CostsOver ended setup bytes before after → TakesKey (key_of x) before after
+  pub accepted_takes : (ended : Result PooledConnection EstablishError) (before after : Ledgers) → IsAcceptedAs ended true → CostsOver ended setup bytes before after → StoresKey (key_of x) before after
   accepted_takes (Ok pooled) before after is costs = takes_key before after pooled costs
   accepted_takes (Err e) before after is costs = absurd is
 
@@ -89,7 +89,7 @@ module _ (pending : PendingConnection) (options : HandshakerOptions) (first_id :
 abbrev AddsOne : Ledgers → Ledgers → Type 0
 AddsOne first last = (key : SaltedKey) × Adds (entries_of first.cache) (entries_of last.cache) (key, salted_of key)
 
-accepted_keeps : (key : Option SaltedKey) (first last : Ledgers) → AcceptedTakes key first last → SameEntries first last ⊎ AddsOne first last
+accepted_keeps : (key : Option SaltedKey) (first last : Ledgers) → AcceptedKeyCosts key first last → SameEntries first last ⊎ AddsOne first last
 accepted_keeps None first last takes = inl takes.entries
 accepted_keeps (Some key) first last takes = elim takes.others [ inl same ↦ inl same | inr adds ↦ inr (key, adds) ]
 

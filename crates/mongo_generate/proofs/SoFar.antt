@@ -8,7 +8,7 @@ use Rattle.mongo_scram.specs.declared.cache.SaltedCache.{SaltedCache}
 use Rattle.mongo_scram.specs.declared.cache.SaltedKey.{SaltedKey}
 use Rattle.mongo_scram.specs.Cache.{entries_of, rounds_of}
 use Rattle.mongo_scram.specs.Costs.{HasEntry, Ledgers, ledgers, Counts, Derives}
-use Rattle.mongo_establish.specs.KeyCosts.{TakesKey}
+use Rattle.mongo_establish.specs.KeyCosts.{StoresKey}
 use Rattle.mongo_establish.proofs.Counting.{taken_keys}
 use Rattle.mongo_generate.specs.Generated.{authentication_at, last_messages, all_messages, key_count, IsGenerated}
 use Rattle.mongo_generate.proofs.Keys.{key_at, same_rest, same_again}
@@ -29,7 +29,7 @@ holds_none cache none key = (
   λ earlier. let lt = earlier.1 in absurd (omega arith),
 )
 
-holds_more : (k : ℕ) (first last : Ledgers) → TakesKey (key_at k) first last → HoldsEarlierKeys first.cache k → HoldsEarlierKeys last.cache (k + 1)
+holds_more : (k : ℕ) (first last : Ledgers) → StoresKey (key_at k) first last → HoldsEarlierKeys first.cache k → HoldsEarlierKeys last.cache (k + 1)
 holds_more k first last takes held key = (
   λ has. elim ((taken_keys (key_at k) first last takes key).0 has) [
     | inl had ↦ let e = (held key).0 had in (e.0, later e.0 e.1, e.2)
@@ -119,7 +119,7 @@ said_more : (k : ℕ) → all_messages k ++ last_messages (authentication_at k) 
 unfolding all_messages
 said_more k = ap all_messages (sym (add-one k))
 
-pub so_far_more : (start k accepted more : ℕ) (hasher next : Sha256) (now later : Ledgers) → SoFar start k accepted hasher now → TakesKey (key_at k) (ledgers (now.steps + 4096) now.cache) later → more ≡ accepted + 1 → Holds256 next (all_messages k ++ last_messages (authentication_at k)) → k < 2 ^ 32
+pub so_far_more : (start k accepted more : ℕ) (hasher next : Sha256) (now later : Ledgers) → SoFar start k accepted hasher now → StoresKey (key_at k) (ledgers (now.steps + 4096) now.cache) later → more ≡ accepted + 1 → Holds256 next (all_messages k ++ last_messages (authentication_at k)) → k < 2 ^ 32
     → SoFar start (k + 1) more next later
 so_far_more start k accepted more hasher next now later s takes counted hashed few =
     let r = rounds_more (ledgers (now.steps + 4096) now.cache) later k takes.derived s.held in

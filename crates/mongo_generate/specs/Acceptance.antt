@@ -6,7 +6,7 @@ use Rattle.mongo_establish.specs.declared.establisher.PooledConnection.{PooledCo
 use Rattle.mongo_server.specs.declared.server_core.ServerCore.{ServerCore}
 use Rattle.mongo_server.specs.Acceptance.{Accepts}
 use Rattle.mongo_server.specs.Authentication.{Authentication, first_of, close_of, server_final_of, IsReadAs}
-use Rattle.mongo_server.specs.Server.{IsOwed, IsClientFinalTaken}
+use Rattle.mongo_server.specs.Server.{IsOwed, IsValidClientFinal}
 use Rattle.mongo_generate.specs.declared.acceptance.Acceptance.{Acceptance}
 use Rattle.mongo_generate.specs.Replies.{AreReplies}
 
@@ -16,7 +16,7 @@ acceptance_of x = record { client_final = close_of x; server_final = server_fina
 
 -- the server has taken the client's last message, and owes its own
 abbrev pub IsTakenBy : ServerCore → Acceptance → Type 0
-IsTakenBy server acceptance = IsClientFinalTaken server acceptance.client_final × IsOwed server acceptance.server_final
+IsTakenBy server acceptance = IsValidClientFinal server acceptance.client_final × IsOwed server acceptance.server_final
 
 -- an establishment ended so: a connection was made, or it was refused for another cause than memory
 abbrev pub IsAcceptedAs : Result PooledConnection EstablishError → Bool → Type 0

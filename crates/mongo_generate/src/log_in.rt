@@ -23,7 +23,7 @@ use std::sync::ledger::Ledger;
 impl Client {
     ghost use Rattle.std.specs.Prelude.{◌≡◌, ◌≤◌, Some, IfSome, IfOk, OnOk, MatchOption};
     ghost use Rattle.mongo_scram.specs.Costs.{ledgers};
-    ghost use Rattle.mongo_establish.specs.KeyCosts.{TakesKey};
+    ghost use Rattle.mongo_establish.specs.KeyCosts.{StoresKey};
     ghost use Rattle.mongo_server.specs.Authentication.{Authentication, close_of};
     ghost use Rattle.mongo_server.specs.Server.{Serves};
     ghost use Rattle.mongo_generate.specs.Acceptance.{acceptance_of, IsTakenBy, AreAuthenticationReplies};
@@ -48,7 +48,7 @@ impl Client {
         // Where both are of one authentication, both accept.
         ensures accepted { (x : Authentication) → IsAuthenticationClient x login.now → Serves server.old x → IfOk result (λ met. met ≡ Some (acceptance_of x)) }
         // Its key is derived where it has no entry, and has one then.
-        ensures takes { (x : Authentication) → IsAuthenticationClient x login.now → Serves server.old x → OnOk result (TakesKey (key_of x) (ledgers steps.old state.old.salted) (ledgers steps.new state.new.salted)) }
+        ensures takes { (x : Authentication) → IsAuthenticationClient x login.now → Serves server.old x → OnOk result (StoresKey (key_of x) (ledgers steps.old state.old.salted) (ledgers steps.new state.new.salted)) }
         // However it ends, and whichever user the server has, no entry is lost, and one key's is added at most.
         ensures keeps { KeepsEntries (ledgers steps.old state.old.salted) (ledgers steps.new state.new.salted) }
         // Whatever the server, what is answered it has taken, and owes.
@@ -75,7 +75,7 @@ impl Client {
         steps: &mut Steps<G>,
     ) -> Result<Option<Bytes>, AllocError>
         ensures closes { (x : Authentication) → IsAuthenticationClient x login.now → AreAuthenticationReplies x replies → IfOk result (λ client_final. client_final ≡ Some (close_of x)) }
-        ensures takes { (x : Authentication) → IsAuthenticationClient x login.now → AreAuthenticationReplies x replies → OnOk result (TakesKey (key_of x) (ledgers steps.old state.old.salted) (ledgers steps.new state.new.salted)) }
+        ensures takes { (x : Authentication) → IsAuthenticationClient x login.now → AreAuthenticationReplies x replies → OnOk result (StoresKey (key_of x) (ledgers steps.old state.old.salted) (ledgers steps.new state.new.salted)) }
         ensures keeps { KeepsEntries (ledgers steps.old state.old.salted) (ledgers steps.new state.new.salted) }
         ensures steps { steps.old ≤ steps.new }
     {
@@ -95,7 +95,7 @@ impl Client {
         steps: &mut Steps<G>,
     ) -> Result<Option<Bytes>, AllocError>
         ensures written { (x : Authentication) → IsAuthenticationClient x login.now → AreAuthenticationReplies x replies → IfOk result (λ written. MatchOption written ⊥ (CarriesPayloadLast (close_of x))) }
-        ensures takes { (x : Authentication) → IsAuthenticationClient x login.now → AreAuthenticationReplies x replies → OnOk result (TakesKey (key_of x) (ledgers steps.old state.old.salted) (ledgers steps.new state.new.salted)) }
+        ensures takes { (x : Authentication) → IsAuthenticationClient x login.now → AreAuthenticationReplies x replies → OnOk result (StoresKey (key_of x) (ledgers steps.old state.old.salted) (ledgers steps.new state.new.salted)) }
         ensures keeps { KeepsEntries (ledgers steps.old state.old.salted) (ledgers steps.new state.new.salted) }
         ensures steps { steps.old ≤ steps.new }
     {
@@ -142,11 +142,11 @@ fn acceptance(
 fn is_accepted(ended: Result<PooledConnection, EstablishError>) -> Result<bool, AllocError>
     ensures { IfOk result (IsAcceptedAs ended) }
 {
-    was_accepted(&ended)
+    has_logged_in(&ended)
 }
 
 // The same by reference: what owns the end lets all of its parts go once.
-fn was_accepted(ended: &Result<PooledConnection, EstablishError>) -> Result<bool, AllocError>
+fn has_logged_in(ended: &Result<PooledConnection, EstablishError>) -> Result<bool, AllocError>
     ensures { IfOk result (IsAcceptedAs ended.now) }
 {
     match ended {

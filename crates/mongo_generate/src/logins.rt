@@ -1,7 +1,7 @@
 ghost use Rattle.std.specs.Prelude.{◌≡◌, ◌+◌, ◌-◌, ◌^◌, ◌<◌, ◌≤◌, ◌++◌, ℕ, List, Some, IsSome, IfOk, OnOk};
 ghost use Rattle.sha2.specs.Hashers.{Holds256};
 ghost use Rattle.mongo_scram.specs.Costs.{ledgers};
-ghost use Rattle.mongo_establish.specs.KeyCosts.{TakesKey};
+ghost use Rattle.mongo_establish.specs.KeyCosts.{StoresKey};
 ghost use Rattle.mongo_server.specs.Authentication.{Authentication};
 ghost use Rattle.mongo_generate.specs.Acceptance.{acceptance_of};
 ghost use Rattle.mongo_generate.specs.Generated.{authentication_at, last_messages, IsGenerated};
@@ -81,7 +81,7 @@ fn log_in_numbered<G: Ledger>(
 ) -> Result<Option<Acceptance>, AllocError>
     ensures accepted { IfOk result (λ met. met ≡ Some (acceptance_of (authentication_at number))) }
     // The server derives the key, and then the client does where it has no entry.
-    ensures takes { OnOk result (TakesKey (key_of (authentication_at number)) (ledgers (steps.old + 4096) state.old.salted) (ledgers steps.new state.new.salted)) }
+    ensures takes { OnOk result (StoresKey (key_of (authentication_at number)) (ledgers (steps.old + 4096) state.old.salted) (ledgers steps.new state.new.salted)) }
     ensures steps { steps.old ≤ steps.new }
 {
     let login = UserLogin::generated(alloc, number)?;

@@ -11,7 +11,7 @@ use Rattle.mongo_settings.specs.declared.status.Status.TheVariants.{Done, Refuse
 use Rattle.mongo_settings.specs.Run.{Run, GaveInput}
 use Rattle.mongo_settings.specs.Settings.{maximum_settings_length}
 use Rattle.mongo_settings.specs.Status.{EndsAs, JudgementDecides, UnlessUsage}
-use Rattle.mongo_settings.specs.Task.{Asks, judged_as, StepsTaken, Reports, ComesOut}
+use Rattle.mongo_settings.specs.Task.{Asks, judged_as, StepCounts, Reports, ComesOut}
 use Rattle.mongo_login.specs.declared.words.Subcommand.{Subcommand}
 use Rattle.mongo_login.specs.declared.words.Subcommand.TheVariants.{Rehearse, Generate}
 use Rattle.mongo_login.specs.Generated.{GenerateEnds}
@@ -22,7 +22,7 @@ use Rattle.mongo_login.specs.Words.{NamesSubcommand, NamesNone}
 
 -- The source was read to its end, its bytes ask for logins, and exactly the report of these, which ends so, was written after
 -- what was there, all of it flushed.
-pub record Printed (task : Task) (steps : StepsTaken) (status : RehearsalStatus) (input : List ℕ) (source_after sink sink_after : State) : Type 0 where
+pub record Printed (task : Task) (steps : StepCounts) (status : RehearsalStatus) (input : List ℕ) (source_after sink sink_after : State) : Type 0 where
   pub asks : Asks
   pub asks_are : judged_as task input ≡ Ok asks
   pub read : source_after.left ≡ Some []
@@ -32,7 +32,7 @@ pub record Printed (task : Task) (steps : StepsTaken) (status : RehearsalStatus)
   pub flushed : IsFlushed sink_after
 
 -- a front of the report of the logins was written after what was there
-pub record PrintedFront (task : Task) (steps : StepsTaken) (input : List ℕ) (sink sink_after : State) : Type 0 where
+pub record PrintedFront (task : Task) (steps : StepCounts) (input : List ℕ) (sink sink_after : State) : Type 0 where
   pub asks : Asks
   pub asks_are : judged_as task input ≡ Ok asks
   pub status : RehearsalStatus
@@ -41,14 +41,14 @@ pub record PrintedFront (task : Task) (steps : StepsTaken) (input : List ℕ) (s
   pub front : AppendsFront sink.written sink_after.written text
 
 -- nothing was written, or a front of the report of the logins
-abbrev pub PrintedAtMost : Task → StepsTaken → List ℕ → State → State → Type 0
+abbrev pub PrintedAtMost : Task → StepCounts → List ℕ → State → State → Type 0
 PrintedAtMost task steps input sink sink_after = Keeps sink.written sink_after.written ⊎ PrintedFront task steps input sink sink_after
 
 -- ---- the ends, one a status
 
 module _ {S K : Type 0} (source : S → State) (sink : K → State) where
   -- the report was written whole; an end of the source was met, and no read and no write failed
-  pub record Reported (task : Task) (steps : StepsTaken) (status : RehearsalStatus) (run : Run S K) : Type 0 where
+  pub record Reported (task : Task) (steps : StepCounts) (status : RehearsalStatus) (run : Run S K) : Type 0 where
     pub unfailed : NoReadFailed (source run.source) (source run.source_after)
     pub sink_unfailed : NoWriteFailed (sink run.sink) (sink run.sink_after)
     pub ended : Rose (source run.source).ends (source run.source_after).ends
@@ -80,7 +80,7 @@ module _ {S K : Type 0} (source : S → State) (sink : K → State) where
     pub unwritten : run.sink_after ≡ run.sink
 
   -- the sink failed: the source was read to its end, no read failed, and a front of the report was written
-  pub record SinkFailed (task : Task) (steps : StepsTaken) (run : Run S K) : Type 0 where
+  pub record SinkFailed (task : Task) (steps : StepCounts) (run : Run S K) : Type 0 where
     pub unfailed : NoReadFailed (source run.source) (source run.source_after)
     pub rose : Rose (sink run.sink).write_faults (sink run.sink_after).write_faults
     pub ended : Rose (source run.source).ends (source run.source_after).ends
@@ -89,7 +89,7 @@ module _ {S K : Type 0} (source : S → State) (sink : K → State) where
 
   -- memory ran out: no more than one byte past the greatest length was read, no read and no write failed, and at most a front of
   -- the report was written
-  pub record TaskRanOut (task : Task) (steps : StepsTaken) (run : Run S K) : Type 0 where
+  pub record TaskRanOut (task : Task) (steps : StepCounts) (run : Run S K) : Type 0 where
     pub unfailed : NoReadFailed (source run.source) (source run.source_after)
     pub sink_unfailed : NoWriteFailed (sink run.sink) (sink run.sink_after)
     pub ended : EndsAtMostOnce (source run.source) (source run.source_after)
@@ -97,7 +97,7 @@ module _ {S K : Type 0} (source : S → State) (sink : K → State) where
     pub printed : GaveInput (source run.source) (λ input. PrintedAtMost task steps input (sink run.sink) (sink run.sink_after))
 
   -- how a task ends, and the steps that it counted
-  abbrev pub TaskEnds : Task → StepsTaken → Run S K → Status → Type 0
+  abbrev pub TaskEnds : Task → StepCounts → Run S K → Status → Type 0
   TaskEnds task steps run Done = Reported task steps rehearsal.Accepted run
   TaskEnds task steps run Refused = Reported task steps rehearsal.Refused run
   TaskEnds task steps run BadSettings = IsBad task run
@@ -108,22 +108,22 @@ module _ {S K : Type 0} (source : S → State) (sink : K → State) where
   TaskEnds task steps run NotBuilt = IsUnbuilt task run
 
   -- logins are made, and nothing is read
-  pub record RanGenerate (count : ℕ) (steps : StepsTaken) (run : Run S K) (status : Status) : Type 0 where
+  pub record RanGenerate (count : ℕ) (steps : StepCounts) (run : Run S K) (status : Status) : Type 0 where
     pub unread : run.source_after ≡ run.source
     pub ends : GenerateEnds sink count steps run.sink run.sink_after status
 
-  abbrev pub SubcommandEnds : Subcommand → StepsTaken → Run S K → Status → Type 0
+  abbrev pub SubcommandEnds : Subcommand → StepCounts → Run S K → Status → Type 0
   SubcommandEnds (Rehearse task) steps run status = TaskEnds task steps run status
   SubcommandEnds (Generate count) steps run status = RanGenerate count steps run status
 
   -- the words name a subcommand that ends so
-  pub record RanSubcommand (words : List (List ℕ)) (steps : StepsTaken) (run : Run S K) (status : Status) : Type 0 where
+  pub record RanSubcommand (words : List (List ℕ)) (steps : StepCounts) (run : Run S K) (status : Status) : Type 0 where
     pub command : Subcommand
     pub named : NamesSubcommand words command
     pub ends : SubcommandEnds command steps run status
 
   -- how a run ends: as the subcommand that its words name, or having done nothing where they name none
-  abbrev pub LoginRunEnds : List (List ℕ) → StepsTaken → Run S K → Status → Type 0
+  abbrev pub LoginRunEnds : List (List ℕ) → StepCounts → Run S K → Status → Type 0
   LoginRunEnds words steps run status = UnlessUsage (NamesNone words) run (RanSubcommand words steps run) status
 
   -- ---- what decides

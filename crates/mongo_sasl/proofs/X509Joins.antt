@@ -3,7 +3,7 @@ use Rattle.std.proofs.Common.{Bool, true, false, refl}
 use Rattle.mongo_wire.specs.declared.error.ErrorKind.TheVariants.{IncompatibleServer}
 use Rattle.mongo_command.specs.Conversation.{ending, reading}
 use Rattle.mongo_command.proofs.Leads.{Never, never_ending, never_unless, never_reading, never_saying}
-use Rattle.mongo_sasl.specs.X509.{X509Handed, X509Row, Takes, x509_said, x509_heard, x509_plan_from, x509_plan, IsX509Login}
+use Rattle.mongo_sasl.specs.X509.{X509Handed, X509Row, AcceptsCertificate, x509_said, x509_heard, x509_plan_from, x509_plan, IsX509Login}
 use Rattle.mongo_sasl.proofs.Joining.{JoinsLogin}
 use Rattle.mongo_sasl.proofs.OtherRows.{other_row}
 use Rattle.mongo_sasl.proofs.X509Plan.{one_x509, x509_ended, x509_ends}
@@ -12,7 +12,7 @@ never_from : (speculated : Bool) (handed : X509Handed) → Never IncompatibleSer
 never_from true handed = never_ending IncompatibleServer tt
 never_from false handed =
     never_saying IncompatibleServer (x509_said handed) x509_heard (λ reply.
-    never_unless IncompatibleServer (X509Row reply) (reading (Takes reply) (λ elements. ending tt)) (λ row. other_row _ IncompatibleServer row refl) (never_reading IncompatibleServer (Takes reply) (λ elements. ending tt) (λ elements. never_ending IncompatibleServer tt)))
+    never_unless IncompatibleServer (X509Row reply) (reading (AcceptsCertificate reply) (λ elements. ending tt)) (λ row. other_row _ IncompatibleServer row refl) (never_reading IncompatibleServer (AcceptsCertificate reply) (λ elements. ending tt) (λ elements. never_ending IncompatibleServer tt)))
 
 pub x509_joins : (handed : X509Handed) → JoinsLogin (x509_plan handed) (IsX509Login handed) handed.maximum
 x509_joins handed = record {

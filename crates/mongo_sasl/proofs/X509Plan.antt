@@ -7,7 +7,7 @@ use Rattle.mongo_command.specs.Conversation.{Event, exchanged, ends, IsOne, HasN
 use Rattle.mongo_command.specs.Field.{field_of}
 use Rattle.mongo_command.proofs.Ends.{PlanEnds, ends_ending, ends_unless, ends_reading, ends_saying}
 use Rattle.mongo_command.proofs.Plans.{no_of, no_row, none_else, one_else, one_row_of, one_row, one_ending, one_unless, one_reading, one_saying}
-use Rattle.mongo_sasl.specs.X509.{Takes, IsCertificateTaken, IsFailed, X509Row, X509Handed, x509_said, x509_heard, x509_plan_from, x509_plan, IsAnsweredX509, IsX509LoginFrom, IsX509Login}
+use Rattle.mongo_sasl.specs.X509.{AcceptsCertificate, IsCertificateAccepted, IsFailed, X509Row, X509Handed, x509_said, x509_heard, x509_plan_from, x509_plan, IsAnsweredX509, IsX509LoginFrom, IsX509Login}
 use Rattle.mongo_sasl.proofs.LoginEvents.{replies_in, documents_in, AreWithin, LoginEnd, EndsBy}
 use Rattle.mongo_sasl.proofs.OneReply.{same_elements}
 use Rattle.mongo_command.specs.Hello.{IsSuccess}
@@ -15,10 +15,10 @@ use Rattle.mongo_command.specs.Keys.{ok_key}
 
 -- ---- the reply
 
-not_failed : (reply : List ℕ) (elements : List Element) → Takes reply elements → IsFailed reply → ⊥
+not_failed : (reply : List ℕ) (elements : List Element) → AcceptsCertificate reply elements → IsFailed reply → ⊥
 not_failed reply elements taken failed = failed.failed (subst (λ es. IsSuccess (field_of ok_key es)) (same_elements reply elements failed.elements taken.well_formed failed.well_formed) taken.ok)
 
-pub certificate_no_row : (reply : List ℕ) (elements : List Element) → Takes reply elements → HasNone (X509Row reply)
+pub certificate_no_row : (reply : List ℕ) (elements : List Element) → AcceptsCertificate reply elements → HasNone (X509Row reply)
 certificate_no_row reply elements taken =
     no_of Authentication _
     (none_else _ _ (no_row Malformed _ (λ none. none elements taken.well_formed))
@@ -27,7 +27,7 @@ certificate_no_row reply elements taken =
 one_x509_row : (reply : List ℕ) → IsOne (X509Row reply)
 one_x509_row reply = one_row_of Authentication _ (one_else _ _ (one_row Malformed _) (one_row X509Failed _))
 
-one_taken : (reply : List ℕ) → IsOne (Takes reply)
+one_taken : (reply : List ℕ) → IsOne (AcceptsCertificate reply)
 one_taken reply = λ a b p q. same_elements reply a b p.well_formed q.well_formed
 
 -- ---- one turn
@@ -44,9 +44,9 @@ one_x509 handed = one_from handed.speculated handed
 
 -- ---- an end is a login
 
-heard_ended : (reply : List ℕ) (events : List Event) (answer : Unit {0}) → PlanEnds (x509_heard reply) events answer → (events ≡ []) × IsCertificateTaken reply
+heard_ended : (reply : List ℕ) (events : List Event) (answer : Unit {0}) → PlanEnds (x509_heard reply) events answer → (events ≡ []) × IsCertificateAccepted reply
 heard_ended reply events answer e =
-    let read = ends_reading (Takes reply) _ events answer (one_taken reply) (ends_unless (X509Row reply) _ events answer e).1 in
+    let read = ends_reading (AcceptsCertificate reply) _ events answer (one_taken reply) (ends_unless (X509Row reply) _ events answer e).1 in
     ((ends_ending tt events answer read.2).0, (read.0, read.1))
 
 from_ended : (speculated : Bool) (handed : X509Handed) (events : List Event) (answer : Unit {0}) → PlanEnds (x509_plan_from speculated handed) events answer → EndsBy (IsX509LoginFrom speculated handed) tt handed.maximum events answer
@@ -65,7 +65,7 @@ x509_ended handed events answer e = from_ended handed.speculated handed events a
 
 -- ---- and a login is an end
 
-heard_turn : (reply : List ℕ) → IsCertificateTaken reply → x509_heard reply [] (ends tt)
+heard_turn : (reply : List ℕ) → IsCertificateAccepted reply → x509_heard reply [] (ends tt)
 heard_turn reply taken = inr (certificate_no_row reply taken.0 taken.1, (taken.0, taken.1, refl))
 
 from_ends : (speculated : Bool) (handed : X509Handed) (commands replies : List (List ℕ)) → IsX509LoginFrom speculated handed commands replies → LoginEnd (x509_plan_from speculated handed) tt handed.maximum commands replies

@@ -13,11 +13,11 @@ use Rattle.mongo_command.specs.Hello.{IsSuccess}
 use Rattle.mongo_command.specs.Keys.{ok_key}
 use Rattle.mongo_command.proofs.Plans.{no_row}
 use Rattle.mongo_sasl.specs.View.{kind_of_field_fault}
-use Rattle.mongo_sasl.specs.X509.{IsCertificateTaken, IsFailed, X509Row}
+use Rattle.mongo_sasl.specs.X509.{IsCertificateAccepted, IsFailed, X509Row}
 
 module _ (reply : List ℕ) (fields : Fields) (held : HoldsWellFormed reply fields) (succeeded : Bool) (tells : IsTrue succeeded ↔ IsSuccess (field_of ok_key held.elements)) where
   -- the command succeeded
-  pub certificate_taken_by : succeeded ≡ true → IsCertificateTaken reply
+  pub certificate_taken_by : succeeded ≡ true → IsCertificateAccepted reply
   certificate_taken_by is = (held.elements, record { well_formed = held.well_formed; ok = tells.0 is })
 
   -- it didn't

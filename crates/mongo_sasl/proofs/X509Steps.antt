@@ -15,7 +15,7 @@ use Rattle.mongo_command.proofs.Steps.{reached_ending}
 use Rattle.mongo_sasl.specs.declared.mechanism.AuthMechanism.TheVariants.{MongoDbX509}
 use Rattle.mongo_sasl.specs.Stops.{BeginsWithCommand, RefusedAtOnce}
 use Rattle.mongo_sasl.specs.Login.{EndsByReply}
-use Rattle.mongo_sasl.specs.X509.{IsCertificateTaken, X509Row, x509_body, x509_command, X509Handed, x509_said, x509_heard, x509_plan_from, x509_plan}
+use Rattle.mongo_sasl.specs.X509.{IsCertificateAccepted, X509Row, x509_body, x509_command, X509Handed, x509_said, x509_heard, x509_plan_from, x509_plan}
 use Rattle.mongo_sasl.specs.Keys.{authenticate_key, mechanism_key, username_key}
 use Rattle.mongo_sasl.specs.Mechanism.{name_of}
 use Rattle.mongo_sasl.proofs.LastReply.{ends_by_reply}
@@ -40,7 +40,7 @@ module _ (handed : X509Handed) (later : handed.speculated ≡ false) where
       (omega (arith, length-enclosed (flat_map spell (int32_element authenticate_key (pos 1) ∷ text_element mechanism_key (name_of MongoDbX509) ∷ present (text_element username_key) handed.credential.username)))) unbuilt)
 
   -- the server took the certificate
-  pub x509_replied : {T : Type 0} (r : Result T Error) (reply held : List ℕ) (old new : State) (before after : ℤ) → reply ≡ held → Exchanges handed.maximum (plain_message (x509_said handed).document) old new before after reply → CountsStay old new → OnOk r (IsCertificateTaken reply) → OnOk r (EndsByReply (x509_plan handed) tt held old new before after)
+  pub x509_replied : {T : Type 0} (r : Result T Error) (reply held : List ℕ) (old new : State) (before after : ℤ) → reply ≡ held → Exchanges handed.maximum (plain_message (x509_said handed).document) old new before after reply → CountsStay old new → OnOk r (IsCertificateAccepted reply) → OnOk r (EndsByReply (x509_plan handed) tt held old new before after)
   x509_replied (Ok x) reply held old new before after same e counts is =
       subst (λ s. EndsByReply (x509_plan_from s handed) tt held old new before after) (sym later)
       (subst (λ document. EndsByReply (saying (x509_said handed) x509_heard) tt document old new before after) same

@@ -38,7 +38,7 @@ x509_command credential api = command_of authenticate_key external (x509_body cr
 -- ---- what the reply says
 
 -- the reply's elements, by which the server took the certificate
-pub record Takes (reply : List ℕ) (elements : List Element) : Type 0 where
+pub record AcceptsCertificate (reply : List ℕ) (elements : List Element) : Type 0 where
   pub well_formed : IsWellFormed reply elements
   pub ok : IsSuccess (field_of ok_key elements)
 
@@ -49,8 +49,8 @@ pub record IsFailed (reply : List ℕ) : Type 0 where
   pub failed : IsSuccess (field_of ok_key elements) → ⊥
 
 -- the server took it by some elements
-abbrev pub IsCertificateTaken : List ℕ → Type 0
-IsCertificateTaken reply = (elements : List Element) × Takes reply elements
+abbrev pub IsCertificateAccepted : List ℕ → Type 0
+IsCertificateAccepted reply = (elements : List Element) × AcceptsCertificate reply elements
 
 -- why a reply is refused
 abbrev pub X509Row : List ℕ → ErrorKind → Type 0
@@ -74,7 +74,7 @@ x509_said handed = record { maximum = handed.maximum; document = command_documen
 
 -- after the reply
 abbrev pub x509_heard : List ℕ → Plan (Unit {0})
-x509_heard reply = unless (X509Row reply) (reading (Takes reply) (λ elements. ending tt))
+x509_heard reply = unless (X509Row reply) (reading (AcceptsCertificate reply) (λ elements. ending tt))
 
 -- nothing follows an answer in the hello
 abbrev pub x509_plan_from : Bool → X509Handed → Plan (Unit {0})
@@ -91,7 +91,7 @@ pub record IsAnsweredX509 (handed : X509Handed) (commands replies : List (List �
   pub commands_are : commands ≡ (x509_said handed).document ∷ []
   pub reply : List ℕ
   pub replies_are : replies ≡ reply ∷ []
-  pub taken : IsCertificateTaken reply
+  pub taken : IsCertificateAccepted reply
 
 abbrev pub IsX509LoginFrom : Bool → X509Handed → List (List ℕ) → List (List ℕ) → Type 0
 IsX509LoginFrom true handed commands replies = (commands ≡ []) × (replies ≡ [])

@@ -5,7 +5,7 @@ ghost use Rattle.mongo_wire.specs.declared.error.ErrorKind.TheVariants.{OutOfMem
 ghost use Rattle.mongo_command.specs.Arguments.{TooLongFor};
 ghost use Rattle.mongo_command.specs.Exchange.{DocumentRefused, frame_maximum};
 ghost use Rattle.mongo_sasl.specs.EndsByScript.{standing, HoldsItsReply};
-ghost use Rattle.mongo_sasl.specs.X509.{x509_body, x509_command, IsCertificateTaken, X509Row, x509_plan, x509_handed, EndsByX509};
+ghost use Rattle.mongo_sasl.specs.X509.{x509_body, x509_command, IsCertificateAccepted, X509Row, x509_plan, x509_handed, EndsByX509};
 
 use crate::commands::login_command;
 use crate::keys::{AUTHENTICATE, MECHANISM};
@@ -99,7 +99,7 @@ fn authenticate_body(alloc: Global, username: &Option<Text>) -> Result<RawDocume
 
 // Takes the reply where the server took the certificate.
 fn take(alloc: Global, reply: RawDocument<'_>) -> Result<(), Error>
-    ensures taken { OnOk result (IsCertificateTaken reply.entry.bytes.now) }
+    ensures taken { OnOk result (IsCertificateAccepted reply.entry.bytes.now) }
     ensures refused { IfErr result (λ e. X509Row reply.entry.bytes.now e.kind ⊎ (e.kind ≡ OutOfMemory)) }
 {
     match Fields::of_well_formed(alloc, reply) {

@@ -14,7 +14,7 @@ use Rattle.mongo_scram.specs.declared.messages.ClientFinal.{ClientFinal}
 use Rattle.mongo_scram.specs.Client.{bare_of, message_of, final_of, auth_message_of, final_conversation, final_source_of, final_api_of}
 use Rattle.mongo_scram.specs.Commands.{final_command}
 use Rattle.mongo_command.specs.Command.{command_document}
-use Rattle.mongo_scram.specs.Costs.{EndsLogin, TakesLastMessage}
+use Rattle.mongo_scram.specs.Costs.{EndsLogin, CarriesValidFinal}
 use Rattle.mongo_scram.specs.Messages.{transcript, close_message, verifier}
 use Rattle.mongo_scram.specs.Plan.{Handed, Challenge, message_by, salted_by, auth_message_by, close_by, verifier_by, close_said, closing, last_exchange}
 use Rattle.mongo_scram.specs.Login.{final_said}
@@ -78,5 +78,5 @@ pub closing_refused : (handed : Handed) (c : Challenge) (tag : List ℕ) (final 
 closing_refused handed c tag final maximum kind same is = subst (λ (x : Closing). RefusedAtOnce (last_exchange x.0 x.1 x.2 c) kind) (same_closing handed c tag final maximum same is)
 
 -- the last reply ends the login
-pub ends_login : (handed : Handed) (c : Challenge) (tag : List ℕ) (final : ClientFinal) (document : List ℕ) → IsFinal handed c tag final → TakesLastMessage (final_conversation final) (verifier (digest_of handed.version) tag (auth_message_of final)) document → EndsLogin handed c document
-ends_login handed c tag final document is = subst (λ (x : Closing). TakesLastMessage x.1 x.2 document) (same_closing handed c tag final handed.maximum refl is)
+pub ends_login : (handed : Handed) (c : Challenge) (tag : List ℕ) (final : ClientFinal) (document : List ℕ) → IsFinal handed c tag final → CarriesValidFinal (final_conversation final) (verifier (digest_of handed.version) tag (auth_message_of final)) document → EndsLogin handed c document
+ends_login handed c tag final document is = subst (λ (x : Closing). CarriesValidFinal x.1 x.2 document) (same_closing handed c tag final handed.maximum refl is)

@@ -13,8 +13,8 @@ use Rattle.mongo_sasl.proofs.EndsByScript.{ends_by_script}
 use Rattle.mongo_sasl.proofs.Handed.{handed_on, on_answer}
 use Rattle.mongo_sasl.proofs.AtOnce.{keeping_none}
 use Rattle.mongo_sasl.proofs.StopsBy.{not_both_faults}
-use Rattle.mongo_scram.specs.Costs.{Ledgers, Balance, SameEntries, Accepted, FaultCosts, ScramRefused}
-use Rattle.mongo_scram.specs.EndsByScram.{balance_at, EndsByScram}
+use Rattle.mongo_scram.specs.Costs.{Ledgers, Checkpoint, SameEntries, Accepted, FaultCosts, ScramRefused}
+use Rattle.mongo_scram.specs.EndsByScram.{checkpoint_at, EndsByScram}
 use Rattle.mongo_scram.specs.Plan.{Handed, Challenge, scram_plan}
 use Rattle.mongo_scram.specs.Script.{IsScramLogin}
 use Rattle.mongo_scram.proofs.LoginSteps.{StopsScram}
@@ -22,11 +22,11 @@ use Rattle.mongo_scram.proofs.ScramCosts.{accepted_reached, fault_begins, refuse
 use Rattle.mongo_scram.proofs.ScramJoins.{scram_joins}
 
 module _ {L : Type 0} (state : L → State) (handed : Handed) (old new : Standing L) (earlier later : Ledgers) where
-  abbrev before : Balance
-  before = balance_at state old earlier
+  abbrev before : Checkpoint
+  before = checkpoint_at state old earlier
 
-  abbrev after : Balance
-  after = balance_at state new later
+  abbrev after : Checkpoint
+  after = checkpoint_at state new later
 
   -- nothing is done over a connection that keeps a fault
   abbrev Untouched : Type 0

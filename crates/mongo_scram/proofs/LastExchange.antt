@@ -21,7 +21,7 @@ use Rattle.mongo_scram.specs.declared.messages.ClientFinal.{ClientFinal}
 use Rattle.mongo_scram.specs.Client.{final_of, final_conversation, final_source_of, final_api_of}
 use Rattle.mongo_scram.specs.Commands.{final_command}
 use Rattle.mongo_scram.specs.Plan.{Challenge, last_heard, last_exchange}
-use Rattle.mongo_scram.specs.Costs.{TakesLastMessage}
+use Rattle.mongo_scram.specs.Costs.{CarriesValidFinal}
 use Rattle.mongo_scram.specs.Login.{final_said, LastRefusal, EndsLastExchange}
 use Rattle.mongo_scram.proofs.OneMessage.{no_final_row}
 use Rattle.mongo_sasl.proofs.NotBuilt.{not_built}
@@ -48,7 +48,7 @@ final_exchanged final command maximum old new before after held reply is same e 
 -- ---- the reply
 
 -- the reply is taken, and it is that of the one exchange
-taken_ends : {T : Type 0} (r : Result T Error) (said : Said) (conversation : OwnedValue) (owed : List ℕ) (c : Challenge) (reply held : List ℕ) (old new : State) (before after : ℤ) → reply ≡ held → Exchanges said.maximum (plain_message said.document) old new before after reply → CountsStay old new → OnOk r (TakesLastMessage conversation owed reply)
+taken_ends : {T : Type 0} (r : Result T Error) (said : Said) (conversation : OwnedValue) (owed : List ℕ) (c : Challenge) (reply held : List ℕ) (old new : State) (before after : ℤ) → reply ≡ held → Exchanges said.maximum (plain_message said.document) old new before after reply → CountsStay old new → OnOk r (CarriesValidFinal conversation owed reply)
     → OnOk r (EndsByReply (last_exchange said conversation owed c) c held old new before after)
 taken_ends (Ok x) said conversation owed c reply held old new before after same e counts is =
     subst (λ document. EndsByReply (last_exchange said conversation owed c) c document old new before after) same
@@ -69,10 +69,10 @@ refused_stopped (Err x) said conversation owed c reply old new before after e co
 
 -- what the exchange promises where the reply is taken
 pub closes_by : {L T : Type 0} (state : L → State) (r : Result T Error) (said : Said) (conversation : OwnedValue) (owed reply : List ℕ) (old new : Standing L) → reply ≡ held_document new.buffer
-    → Exchanges said.maximum (plain_message said.document) (state old.link) (state new.link) old.id new.id reply → CountsStay (state old.link) (state new.link) → IsFrameTaken said.maximum (state old.link) (state new.link) new.buffer → OnOk r (TakesLastMessage conversation owed reply) → OnOk r (EndsLastExchange state said conversation owed old new)
+    → Exchanges said.maximum (plain_message said.document) (state old.link) (state new.link) old.id new.id reply → CountsStay (state old.link) (state new.link) → IsFrameTaken said.maximum (state old.link) (state new.link) new.buffer → OnOk r (CarriesValidFinal conversation owed reply) → OnOk r (EndsLastExchange state said conversation owed old new)
 closes_by state (Ok x) said conversation owed reply old new same e counts taken is = record {
   taken = taken;
   ends = λ c. taken_ends (Ok x) said conversation owed c reply (held_document new.buffer) (state old.link) (state new.link) old.id new.id same e counts is;
-  message = subst (TakesLastMessage conversation owed) same is;
+  message = subst (CarriesValidFinal conversation owed) same is;
 }
 closes_by state (Err x) said conversation owed reply old new same e counts taken is = tt

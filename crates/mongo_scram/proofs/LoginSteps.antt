@@ -17,7 +17,7 @@ use Rattle.mongo_scram.specs.declared.conversation.FirstRound.{FirstRound}
 use Rattle.mongo_scram.specs.declared.login.Opened.{Opened}
 use Rattle.mongo_scram.specs.Cache.{entries_of, rounds_of, Adds}
 use Rattle.mongo_scram.specs.Client.{nonce_of, frames_after}
-use Rattle.mongo_scram.specs.Costs.{Ledgers, ledgers, Balance, balance, key_by, HasEntry, Derives, SameEntries, CostsNothing, EndsLogin, Accepted, StoppedScram, CloseUnsaid, ScramRefused, key_for}
+use Rattle.mongo_scram.specs.Costs.{Ledgers, ledgers, Checkpoint, checkpoint, key_by, HasEntry, Derives, SameEntries, CostsNothing, EndsLogin, Accepted, StoppedScram, CloseUnsaid, ScramRefused, key_for}
 use Rattle.mongo_scram.specs.Entry.{salted_of, IsUsable}
 use Rattle.mongo_scram.specs.Plan.{Handed, Challenge, salted_by, opening, closing, scram_plan}
 use Rattle.mongo_scram.specs.Login.{frames_opened, Opens, IsAnswered}
@@ -28,13 +28,13 @@ use Rattle.mongo_scram.proofs.ScramPlan.{challenge_by_first}
 -- ---- between the exchanges
 
 -- the first exchange is over, and the key was derived where it has no entry
-pub record IsBetween (handed : Handed) (user : User) (o : Opened) (key : SaltedKey) (tag : List ℕ) (old middle : Balance) : Type 0 where
+pub record IsBetween (handed : Handed) (user : User) (o : Opened) (key : SaltedKey) (tag : List ℕ) (old middle : Checkpoint) : Type 0 where
   pub is_user : IsUser handed.credential user
   pub opens : Opens handed user o old.state middle.state old.id middle.id
   pub key_is : key ≡ key_for handed.version user o.server_first
   pub answered : IsAnswered o.server_first (nonce_of o.client_first) handed.max_iterations key tag old.ledgers middle.ledgers
 
-pub between_by : (handed : Handed) (user : User) (o : Opened) (key : SaltedKey) (tag nonce : List ℕ) (old middle : Balance) → IsUser handed.credential user → Opens handed user o old.state middle.state old.id middle.id → nonce ≡ nonce_of o.client_first → key ≡ key_for handed.version user o.server_first
+pub between_by : (handed : Handed) (user : User) (o : Opened) (key : SaltedKey) (tag nonce : List ℕ) (old middle : Checkpoint) → IsUser handed.credential user → Opens handed user o old.state middle.state old.id middle.id → nonce ≡ nonce_of o.client_first → key ≡ key_for handed.version user o.server_first
     → IsAnswered o.server_first nonce handed.max_iterations key tag old.ledgers middle.ledgers → IsBetween handed user o key tag old middle
 between_by handed user o key tag nonce old middle is_user opens same key_is answered =
     record { is_user = is_user; opens = opens; key_is = key_is; answered = subst (λ n. IsAnswered o.server_first n handed.max_iterations key tag old.ledgers middle.ledgers) same answered }
@@ -61,17 +61,17 @@ kept_entries key first last kept same (inr adds) = inr (subst (λ es. Adds es (e
 -- ---- where it was stopped
 
 -- and what that leaves the connection to keep
-abbrev pub StopsScram : Handed → ErrorKind → Option ErrorKind → Balance → Balance → Type 0
+abbrev pub StopsScram : Handed → ErrorKind → Option ErrorKind → Checkpoint → Checkpoint → Type 0
 StopsScram handed kind kept old new = StoppedScram handed kind old new × StoppedKeeping (scram_plan handed) kind old.state new.state old.id new.id kept
 
 -- in its opening
-pub stopped_early : {kept : Option ErrorKind} (handed : Handed) (kind : ErrorKind) (old new : Balance) → StoppedKeeping (opening handed) kind old.state new.state old.id new.id kept → CostsNothing old.ledgers new.ledgers → StopsScram handed kind kept old new
+pub stopped_early : {kept : Option ErrorKind} (handed : Handed) (kind : ErrorKind) (old new : Checkpoint) → StoppedKeeping (opening handed) kind old.state new.state old.id new.id kept → CostsNothing old.ledgers new.ledgers → StopsScram handed kind kept old new
 stopped_early {kept = kept} handed kind old new s nothing =
     (inl ((kept, s), nothing), stopped_first (opening handed) (closing handed) kind old.state new.state old.id new.id s)
 
 -- ---- from between the exchanges
 
-module _ (handed : Handed) (user : User) (o : Opened) (key : SaltedKey) (tag : List ℕ) (old middle : Balance) (is : IsBetween handed user o key tag old middle) where
+module _ (handed : Handed) (user : User) (o : Opened) (key : SaltedKey) (tag : List ℕ) (old middle : Checkpoint) (is : IsBetween handed user o key tag old middle) where
   abbrev challenge : Challenge
   challenge = challenge_by_first user o.server_first
 
@@ -89,7 +89,7 @@ module _ (handed : Handed) (user : User) (o : Opened) (key : SaltedKey) (tag : L
 
   -- a stop of the closing
   pub stopped_late : {kept : Option ErrorKind} (kind : ErrorKind) (new : State) (after : ℤ) (last : SaltedCache) → Derives (key_by handed challenge) old.ledgers (ledgers middle.ledgers.steps last) → SameEntries old.ledgers (ledgers middle.ledgers.steps last)
-      → StoppedKeeping (closing handed challenge) kind middle.state new middle.id after kept → StopsScram handed kind kept old (balance new after (ledgers middle.ledgers.steps last))
+      → StoppedKeeping (closing handed challenge) kind middle.state new middle.id after kept → StopsScram handed kind kept old (checkpoint new after (ledgers middle.ledgers.steps last))
   stopped_late {kept = kept} kind new after last derives entries s = (
     inr (record {
       challenge = challenge;
@@ -104,7 +104,7 @@ module _ (handed : Handed) (user : User) (o : Opened) (key : SaltedKey) (tag : L
   )
 
   -- one before anything is put in
-  pub stopped_between : {kept : Option ErrorKind} (kind : ErrorKind) (new : State) (after : ℤ) → StoppedKeeping (closing handed challenge) kind middle.state new middle.id after kept → StopsScram handed kind kept old (balance new after middle.ledgers)
+  pub stopped_between : {kept : Option ErrorKind} (kind : ErrorKind) (new : State) (after : ℤ) → StoppedKeeping (closing handed challenge) kind middle.state new middle.id after kept → StopsScram handed kind kept old (checkpoint new after middle.ledgers)
   stopped_between kind new after s = stopped_late kind new after middle.ledgers.cache derived is.answered.entries s
 
   -- what was derived by a first round that went with the hello, before its last message is said
@@ -123,14 +123,14 @@ module _ (handed : Handed) (user : User) (o : Opened) (key : SaltedKey) (tag : L
   -- ---- after the last exchange
 
   pub stopped_last : {T : Type 0} (r : Result T Error) (document : List ℕ) (new : State) (after : ℤ) (kept : SaltedCache) → EndsByReply (closing handed challenge) challenge document middle.state new middle.id after → rounds_of kept ≡ rounds_of middle.ledgers.cache
-      → OnErr r (entries_of kept ≡ entries_of middle.ledgers.cache) → IfErr r (λ e. e.kind ≡ OutOfMemory) → IfErr r (λ e. StopsScram handed e.kind None old (balance new after (ledgers middle.ledgers.steps kept)))
+      → OnErr r (entries_of kept ≡ entries_of middle.ledgers.cache) → IfErr r (λ e. e.kind ≡ OutOfMemory) → IfErr r (λ e. StopsScram handed e.kind None old (checkpoint new after (ledgers middle.ledgers.steps kept)))
   stopped_last (Ok x) document new after kept closed rounds entries memory = tt
   stopped_last (Err e) document new after kept closed rounds entries memory =
       stopped_late e.kind new after kept (kept_derives (key_by handed challenge) old.ledgers middle.ledgers kept rounds derived) (entries ∙ is.answered.entries)
       (reached_stopped (closing handed challenge) challenge e.kind middle.state new middle.id after memory (ends_reached (closing handed challenge) challenge document middle.state new middle.id after closed))
 
   pub accepted_by : {T : Type 0} (r : Result T Error) (buffer : FrameBuffer) (new : State) (after : ℤ) (kept : SaltedCache) → IsFrameTaken handed.maximum middle.state new buffer → EndsByReply (closing handed challenge) challenge (held_document buffer) middle.state new middle.id after
-      → rounds_of kept ≡ rounds_of middle.ledgers.cache → EndsLogin handed challenge (held_document buffer) → OnOk r (Kept key middle.ledgers.cache kept) → OnOk r (Accepted handed buffer old (balance new after (ledgers middle.ledgers.steps kept)))
+      → rounds_of kept ≡ rounds_of middle.ledgers.cache → EndsLogin handed challenge (held_document buffer) → OnOk r (Kept key middle.ledgers.cache kept) → OnOk r (Accepted handed buffer old (checkpoint new after (ledgers middle.ledgers.steps kept)))
   accepted_by (Ok x) buffer new after kept taken closed rounds ends entries =
       record {
         challenge = challenge;

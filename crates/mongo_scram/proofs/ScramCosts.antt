@@ -9,10 +9,10 @@ use Rattle.mongo_sasl.specs.Stops.{BeginsWithCommand, RefusedAtOnce}
 use Rattle.mongo_sasl.proofs.LastReply.{ends_reached}
 use Rattle.mongo_sasl.proofs.AtOnce.{at_once_first, at_once_second}
 use Rattle.mongo_scram.specs.Plan.{Handed, start_said, close_said, opened, opening, closing, scram_plan}
-use Rattle.mongo_scram.specs.Costs.{Ledgers, Balance, Accepted, StartUnsaid, FaultCosts, ScramRefused}
+use Rattle.mongo_scram.specs.Costs.{Ledgers, Checkpoint, Accepted, StartUnsaid, FaultCosts, ScramRefused}
 use Rattle.mongo_scram.proofs.OneRow.{no_credential_row}
 
-pub accepted_reached : (handed : Handed) (buffer : FrameBuffer) (old new : Balance) → (is : Accepted handed buffer old new) → Reached (scram_plan handed) is.challenge old.state new.state old.id new.id
+pub accepted_reached : (handed : Handed) (buffer : FrameBuffer) (old new : Checkpoint) → (is : Accepted handed buffer old new) → Reached (scram_plan handed) is.challenge old.state new.state old.id new.id
 accepted_reached handed buffer old new is =
     reached_both (opening handed) (closing handed) is.challenge is.challenge old.state is.middle new.state old.id is.between new.id is.opened
     (ends_reached (closing handed is.challenge) is.challenge (held_document buffer) is.middle new.state is.between new.id is.closed)

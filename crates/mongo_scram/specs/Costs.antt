@@ -42,13 +42,13 @@ abbrev pub ledgers : ℕ → SaltedCache → Ledgers
 ledgers steps cache = record { steps = steps; cache = cache }
 
 -- how a login stands at a moment: its link, the next id, and its counter and cache
-pub record Balance : Type 0 where
+pub record Checkpoint : Type 0 where
   pub state : State
   pub id : ℤ
   pub ledgers : Ledgers
 
-abbrev pub balance : State → ℤ → Ledgers → Balance
-balance state id ledgers = record { state = state; id = id; ledgers = ledgers }
+abbrev pub checkpoint : State → ℤ → Ledgers → Checkpoint
+checkpoint state id ledgers = record { state = state; id = id; ledgers = ledgers }
 
 -- so many rounds were derived and counted
 pub record Counts (rounds : ℕ) (old new : Ledgers) : Type 0 where
@@ -68,18 +68,18 @@ pub record CostsNothing (old new : Ledgers) : Type 0 where
   pub entries : SameEntries old new
 
 -- the document carries a last message of the server that is taken in this conversation, by the verifier that is owed
-pub record TakesLastMessage (conversation : OwnedValue) (owed document : List ℕ) : Type 0 where
+pub record CarriesValidFinal (conversation : OwnedValue) (owed document : List ℕ) : Type 0 where
   pub last : ServerFinal
   pub carries : CarriesFinal document last
   pub taken : HasNone (LastMessageRow conversation owed last)
 
 -- the one by which a login ends
 abbrev pub EndsLogin : Handed → Challenge → List ℕ → Type 0
-EndsLogin handed c = TakesLastMessage c.first.conversation_id (verifier_by handed c)
+EndsLogin handed c = CarriesValidFinal c.first.conversation_id (verifier_by handed c)
 
 -- The opening was followed to its end and then the closing, by one exchange, whose reply the buffer holds, the very frame that
 -- was taken; the key was derived where it had no entry, and has one now.
-pub record Accepted (handed : Handed) (buffer : FrameBuffer) (old new : Balance) : Type 0 where
+pub record Accepted (handed : Handed) (buffer : FrameBuffer) (old new : Checkpoint) : Type 0 where
   pub challenge : Challenge
   pub middle : State
   pub between : ℤ
@@ -91,7 +91,7 @@ pub record Accepted (handed : Handed) (buffer : FrameBuffer) (old new : Balance)
   pub kept : (HasEntry old.ledgers.cache (key_by handed challenge) × SameEntries old.ledgers new.ledgers) ⊎ Adds (entries_of old.ledgers.cache) (entries_of new.ledgers.cache) (key_by handed challenge, salted_of (key_by handed challenge))
 
 -- the opening was followed to its end, and the closing was stopped
-pub record StoppedClosing (handed : Handed) (kind : ErrorKind) (old new : Balance) : Type 0 where
+pub record StoppedClosing (handed : Handed) (kind : ErrorKind) (old new : Checkpoint) : Type 0 where
   pub challenge : Challenge
   pub middle : State
   pub between : ℤ
@@ -102,7 +102,7 @@ pub record StoppedClosing (handed : Handed) (kind : ErrorKind) (old new : Balanc
   pub entries : SameEntries old.ledgers new.ledgers
 
 -- Where a login was stopped: in the opening, before anything was derived, or in the closing.
-abbrev pub StoppedScram : Handed → ErrorKind → Balance → Balance → Type 0
+abbrev pub StoppedScram : Handed → ErrorKind → Checkpoint → Checkpoint → Type 0
 StoppedScram handed kind old new = (Stopped (opening handed) kind old.state new.state old.id new.id × CostsNothing old.ledgers new.ledgers) ⊎ StoppedClosing handed kind old new
 
 -- ---- over a connection that keeps a fault

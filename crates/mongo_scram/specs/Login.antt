@@ -22,7 +22,7 @@ use Rattle.mongo_scram.specs.declared.server_final.ServerFinal.{ServerFinal}
 use Rattle.mongo_scram.specs.Base64.{base64_of}
 use Rattle.mongo_scram.specs.Client.{message_of, nonce_of, handed_to, final_of, final_conversation, final_source_of, final_api_of}
 use Rattle.mongo_scram.specs.Commands.{final_command}
-use Rattle.mongo_scram.specs.Costs.{Ledgers, Derives, SameEntries, TakesLastMessage}
+use Rattle.mongo_scram.specs.Costs.{Ledgers, Derives, SameEntries, CarriesValidFinal}
 use Rattle.mongo_scram.specs.Entry.{salted_of, IsUsable}
 use Rattle.mongo_scram.specs.Plan.{Speculated, Handed, Challenge, message_by, nonce_by, start_said, LastMessageRow, last_exchange}
 use Rattle.mongo_scram.specs.Replies.{CarriesFirst, CarriesFinal, FinalReplyRow}
@@ -82,7 +82,7 @@ final_said final maximum = record { maximum = maximum; document = command_docume
 pub record EndsLastExchange {L : Type 0} (state : L → State) (said : Said) (conversation : OwnedValue) (owed : List ℕ) (old new : Standing L) : Type 0 where
   pub taken : IsFrameTaken said.maximum (state old.link) (state new.link) new.buffer
   pub ends : (c : Challenge) → EndsByReply (last_exchange said conversation owed c) c (held_document new.buffer) (state old.link) (state new.link) old.id new.id
-  pub message : TakesLastMessage conversation owed (held_document new.buffer)
+  pub message : CarriesValidFinal conversation owed (held_document new.buffer)
 
 -- why it carries none that is: the row of the reply, else that of the message
 abbrev pub LastRefusal : OwnedValue → List ℕ → List ℕ → ErrorKind → Type 0

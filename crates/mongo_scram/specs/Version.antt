@@ -13,9 +13,9 @@ digest_of Sha1 = sha1
 digest_of Sha256 = sha256
 
 -- the length of a digest in bytes
-abbrev pub digest_len : ScramVersion → ℕ
-digest_len Sha1 = 20
-digest_len Sha256 = 32
+abbrev pub digest_length : ScramVersion → ℕ
+digest_length Sha1 = 20
+digest_length Sha256 = 32
 
 -- the mechanism's name
 abbrev pub version_name : ScramVersion → List ℕ

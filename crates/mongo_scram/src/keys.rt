@@ -1,6 +1,6 @@
 ghost use Rattle.std.specs.Prelude.{◌≡◌, length};
 ghost use Rattle.mongo_scram.specs.SigningKey.{IsKeyOf, IsKeyOf-prop};
-ghost use Rattle.mongo_scram.specs.Version.{digest_len};
+ghost use Rattle.mongo_scram.specs.Version.{digest_length};
 
 use crate::ScramVersion;
 use crate::signing_key::SigningKey;
@@ -24,7 +24,7 @@ pub struct Keys {
     // StoredKey and ServerKey, as HMAC uses them.
     stored: SigningKey,
     server: SigningKey,
-    pub ghost fits: { length client_key ≡ digest_len version },
+    pub ghost fits: { length client_key ≡ digest_length version },
     pub ghost stored_is: { IsKeyOf version stored_key stored } by { IsKeyOf-prop version stored_key stored },
     pub ghost server_is: { IsKeyOf version server_key server } by { IsKeyOf-prop version server_key server },
 }

@@ -9,7 +9,7 @@ ghost use Rattle.mongo_scram.specs.Client.{auth_message_of, final_conversation};
 ghost use Rattle.mongo_scram.specs.Messages.{verifier};
 ghost use Rattle.mongo_scram.specs.Plan.{Challenge, last_exchange};
 ghost use Rattle.mongo_scram.specs.Replies.{CarriesFirst, FirstReplyRow};
-ghost use Rattle.mongo_scram.specs.Costs.{TakesLastMessage};
+ghost use Rattle.mongo_scram.specs.Costs.{CarriesValidFinal};
 ghost use Rattle.mongo_scram.specs.Login.{final_said, LastRefusal, LeavesOneExchange, EndsLastExchange};
 ghost use Rattle.mongo_scram.specs.Version.{digest_of};
 
@@ -181,7 +181,7 @@ fn take_last(
     salted: &SaltedPassword,
     client_final: &ClientFinal,
 ) -> Result<(), Error>
-    ensures taken { OnOk result (TakesLastMessage (final_conversation client_final.now) (verifier (digest_of version) salted.now (auth_message_of client_final.now)) reply.entry.bytes.now) }
+    ensures taken { OnOk result (CarriesValidFinal (final_conversation client_final.now) (verifier (digest_of version) salted.now (auth_message_of client_final.now)) reply.entry.bytes.now) }
     ensures refused { IfErr result (λ e. LastRefusal (final_conversation client_final.now) (verifier (digest_of version) salted.now (auth_message_of client_final.now)) reply.entry.bytes.now e.kind ⊎ (e.kind ≡ OutOfMemory)) }
 {
     let last = ServerFinal::parse(alloc, reply)?;

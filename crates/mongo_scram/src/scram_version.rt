@@ -1,7 +1,7 @@
 ghost use Rattle.std.specs.Prelude.{◌≡◌, ◌+◌, ◌≤◌, length};
 ghost use Rattle.mongo_mac.specs.Hi.{hi_of};
 ghost use Rattle.mongo_scram.specs.Commands.{mechanism_of};
-ghost use Rattle.mongo_scram.specs.Version.{digest_of, digest_len, version_name};
+ghost use Rattle.mongo_scram.specs.Version.{digest_of, digest_length, version_name};
 
 use mongo_mac::{Sha1Fn, Sha256Fn, Steps, Tag, digest, hi};
 use mongo_sasl::AuthMechanism;
@@ -38,7 +38,7 @@ impl ScramVersion {
     /// H(text): the digest of the text by the version's hash function.
     pub fn h(&self, text: &[u8]) -> Tag
         ensures value { result ≡ digest_of self.now text.now }
-        ensures len { length result ≡ digest_len self.now }
+        ensures len { length result ≡ digest_length self.now }
     {
         match self {
             ScramVersion::Sha1 => digest::<Sha1Fn>(text),

@@ -1,7 +1,7 @@
 ghost use Rattle.std.specs.Prelude.{◌≡◌, ℕ, List, length};
 ghost use Rattle.mongo_mac.specs.Hmac.{hmac_of};
 ghost use Rattle.mongo_scram.specs.SigningKey.{IsKeyOf};
-ghost use Rattle.mongo_scram.specs.Version.{digest_of, digest_len};
+ghost use Rattle.mongo_scram.specs.Version.{digest_of, digest_length};
 ghost use Rattle.mongo_scram.specs.declared.scram_version.ScramVersion.{ScramVersion as Version};
 
 use crate::ScramVersion;
@@ -33,7 +33,7 @@ impl SigningKey {
         ensures value { (version : Version) (key : List ℕ) → IsKeyOf version key self.now →
             result ≡ hmac_of (digest_of version) key text.now }
         ensures len { (version : Version) (key : List ℕ) → IsKeyOf version key self.now →
-            length result ≡ digest_len version }
+            length result ≡ digest_length version }
     {
         match self {
             SigningKey::Sha1(key) => key.mac(text),

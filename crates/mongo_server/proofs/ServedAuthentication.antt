@@ -15,7 +15,7 @@ use Rattle.mongo_server.specs.declared.server_core.ServerConversation.{ServerCon
 use Rattle.mongo_server.specs.declared.server_core.ServerCore.{ServerCore}
 use Rattle.mongo_server.specs.ClientMessages.{IsNonceByte, IsNonce, IsClientFirst, IsClientFinal}
 use Rattle.mongo_server.specs.Authentication.{Authentication, joined_of, salted_between, open_of, first_of, auth_message_between, close_of, server_final_of, IsReadAs}
-use Rattle.mongo_server.specs.Server.{server_user, salt_of, suffix_of, username_of, held_conversation, first_by, conversation_by, ClientFirstRow, IsClientFinalTaken, ClientFinalRefused, Serves, HasBegun}
+use Rattle.mongo_server.specs.Server.{server_user, salt_of, suffix_of, username_of, held_conversation, first_by, conversation_by, ClientFirstRow, IsValidClientFinal, ClientFinalRefused, Serves, HasBegun}
 use Rattle.mongo_server.specs.ServerTexts.{server_first, server_final}
 use Rattle.mongo_server.proofs.ClientFirsts.{one_client_first}
 use Rattle.mongo_server.specs.Acceptance.{Accepts}
@@ -100,7 +100,7 @@ module _ (core : ServerCore) (x : Authentication) (begun : HasBegun core x) wher
   client_final message is = record { message_is = is; bytes = proof_bytes x.version (salted_between x) (auth_message_between x) }
 
   -- what it takes is the client's last message
-  taken_is : (message : List ℕ) → IsClientFinalTaken core message → message ≡ close_of x
+  taken_is : (message : List ℕ) → IsValidClientFinal core message → message ≡ close_of x
   unfolding close_message
   taken_is message is = is.2.message_is ∙ (λ i. no_proof ((held_is is.0 is.1 i).nonce) ++ (after_comma proof_attribute ++ base64_of (owed_is is.0 is.1 i)))
 
@@ -123,6 +123,6 @@ takes_final core message fault (inl row) x begun is =
 takes_final core message fault (inr memory) x begun is = memory.0
 
 -- and no other message is taken
-pub takes_only : {T : Type 0} (core : ServerCore) (message : List ℕ) (r : Result T ServerFault) → IsClientFinalTaken core message → (x : Authentication) → HasBegun core x → OnOk r (message ≡ close_of x)
+pub takes_only : {T : Type 0} (core : ServerCore) (message : List ℕ) (r : Result T ServerFault) → IsValidClientFinal core message → (x : Authentication) → HasBegun core x → OnOk r (message ≡ close_of x)
 takes_only core message (Ok t) is x begun = taken_is core x begun message is
 takes_only core message (Err fault) is x begun = tt

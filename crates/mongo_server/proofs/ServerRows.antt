@@ -9,7 +9,7 @@ use Rattle.mongo_server.specs.declared.server_core.ServerConversation.{ServerCon
 use Rattle.mongo_server.specs.declared.server_core.ServerCore.{ServerCore}
 use Rattle.mongo_server.specs.ClientMessages.{IsClientFirst, IsClientFinal}
 use Rattle.mongo_scram.specs.Keys.{proof_under}
-use Rattle.mongo_server.specs.Server.{username_of, held_conversation, ClientFirstRow, ClientFinalRow, ClientFinalRefused, IsClientFinalTaken}
+use Rattle.mongo_server.specs.Server.{username_of, held_conversation, ClientFirstRow, ClientFinalRow, ClientFinalRefused, IsValidClientFinal}
 use Rattle.mongo_server.proofs.ClientFirsts.{one_client_first}
 use Rattle.mongo_server.proofs.UserNames.{escaped_same}
 use Rattle.mongo_server.proofs.ClientFinals.{one_client_final}
@@ -60,7 +60,7 @@ proof_row core message held proof is final other =
       ),
     )
 
-pub final_no_row : (core : ServerCore) (message : List ℕ) → IsClientFinalTaken core message → HasNone (ClientFinalRow core message)
+pub final_no_row : (core : ServerCore) (message : List ℕ) → IsValidClientFinal core message → HasNone (ClientFinalRow core message)
 final_no_row core message is =
     let proof = proof_under core.user.keys is.0.auth_message in
     none_else _ _ (no_row _ _ (λ none. not_started (held_conversation core) is.0 none is.1))
@@ -68,7 +68,7 @@ final_no_row core message is =
     (none_else _ _ (no_row _ _ (λ row. row.2.3 (nonce_held core message is.0 proof is.1 is.2 row.0 row.2.0 row.2.1 row.1 row.2.2)))
     (no_row _ _ (λ row. row.2.2 ((one_client_final message row.0.nonce row.2.0 is.0.nonce proof row.2.1 is.2).proof_is ∙ ap (λ (c : ServerConversation). proof_under core.user.keys c.auth_message) (one_held (held_conversation core) is.0 row.0 is.1 row.1))))))
 
-pub exact_taken : {T : Type 0} (core : ServerCore) (message : List ℕ) (r : Result T ServerFault) → IsClientFinalTaken core message → (fault : ServerFault) → ClientFinalRow core message fault → (r ≡ Err fault) ⊎ (r ≡ Err OutOfMemory)
+pub exact_taken : {T : Type 0} (core : ServerCore) (message : List ℕ) (r : Result T ServerFault) → IsValidClientFinal core message → (fault : ServerFault) → ClientFinalRow core message fault → (r ≡ Err fault) ⊎ (r ≡ Err OutOfMemory)
 exact_taken core message r is fault row = absurd (final_no_row core message is fault row)
 
 pub exact_refused : {T : Type 0} (core : ServerCore) (message : List ℕ) (a : ServerFault) → ClientFinalRefused core message a → (fault : ServerFault) → ClientFinalRow core message fault → (◌≡◌ {A = Result T ServerFault} (Err a) (Err fault)) ⊎ (◌≡◌ {A = Result T ServerFault} (Err a) (Err OutOfMemory))

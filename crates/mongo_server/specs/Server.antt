@@ -63,8 +63,8 @@ abbrev pub IsOwed : ServerCore → List ℕ → Type 0
 IsOwed core text = (held : ServerConversation) × (held_conversation core ≡ Some held) × (text ≡ server_final (verifier_under core.user.keys held.auth_message))
 
 -- the message is a client's last one, with the joined nonce and the proof that the client owes
-abbrev pub IsClientFinalTaken : ServerCore → List ℕ → Type 0
-IsClientFinalTaken core message = (held : ServerConversation) × (held_conversation core ≡ Some held) × IsClientFinal message held.nonce (proof_under core.user.keys held.auth_message)
+abbrev pub IsValidClientFinal : ServerCore → List ℕ → Type 0
+IsValidClientFinal core message = (held : ServerConversation) × (held_conversation core ≡ Some held) × IsClientFinal message held.nonce (proof_under core.user.keys held.auth_message)
 
 -- ---- why it refuses: the first row that applies
 

@@ -82,7 +82,7 @@ impl ServerCore {
     ghost use Rattle.mongo_server.specs.Acceptance.{Accepts};
     ghost use Rattle.mongo_server.specs.ClientMessages.{IsNonce, IsClientFirst};
     ghost use Rattle.mongo_server.specs.Authentication.{Authentication, open_of, close_of, server_final_of, IsReadAs};
-    ghost use Rattle.mongo_server.specs.Server.{server_user, salt_of, suffix_of, username_of, held_conversation, conversation_by, first_by, BeginsConversation, HearsClientFirst, ClientFirstRow, IsOwed, IsClientFinalTaken, ClientFinalRow, ClientFinalRefused, Serves, HasBegun};
+    ghost use Rattle.mongo_server.specs.Server.{server_user, salt_of, suffix_of, username_of, held_conversation, conversation_by, first_by, BeginsConversation, HearsClientFirst, ClientFirstRow, IsOwed, IsValidClientFinal, ClientFinalRow, ClientFinalRefused, Serves, HasBegun};
     ghost use Rattle.mongo_server.specs.declared.fault.ServerFault.{ServerFault as Fault};
     ghost use Rattle.mongo_server.specs.declared.fault.ServerFault.TheVariants.{NotStarted, OutOfMemory};
 
@@ -166,7 +166,7 @@ impl ServerCore {
     /// the client owes. Want of memory may stand in the place of each but the first. The server is left as it was, and holds
     /// the conversation still.
     pub fn last(&mut self, alloc: Global, client_final: &[u8]) -> Result<Text, ServerFault>
-        ensures taken { OnOk result (IsClientFinalTaken self.old client_final.now) }
+        ensures taken { OnOk result (IsValidClientFinal self.old client_final.now) }
         ensures answered { IfOk result (IsOwed self.old) }
         ensures refused { IfErr result (λ fault. ClientFinalRow self.old client_final.now fault ⊎ (fault ≡ OutOfMemory)) }
         ensures not_started { held_conversation self.old ≡ None → result ≡ Err NotStarted }
@@ -243,7 +243,7 @@ impl ServerCore {
 
     // Whether a client's last message proves the key in the conversation.
     fn check(&self, alloc: Global, client_final: &[u8]) -> Result<(), ServerFault>
-        ensures taken { OnOk result (IsClientFinalTaken self.now client_final.now) }
+        ensures taken { OnOk result (IsValidClientFinal self.now client_final.now) }
         ensures refused { IfErr result (ClientFinalRefused self.now client_final.now) }
     {
         let Some(conversation) = &self.conversation else {

@@ -24,7 +24,7 @@ use Rattle.mongo_service.specs.Faults.{fault_of_bson, fault_of_frame, IsOfBuildi
 use Rattle.mongo_server.specs.Announced.{maximum_message_length}
 use Rattle.mongo_session.specs.Replies.{TooLongFor}
 use Rattle.mongo_service.specs.Sent.{WriteCause}
-use Rattle.mongo_session.specs.Requests.{IsGreeting}
+use Rattle.mongo_session.specs.Requests.{IsHello}
 use Rattle.mongo_service.specs.Served.{HasCauseAfter, Lasts}
 use Rattle.mongo_service.specs.Taken.{IsQuery}
 use Rattle.mongo_service.specs.Turns.{ServerTurn}
@@ -202,10 +202,10 @@ cause_after fault count old mid new taken cut more lasts before c = c
 
 -- ---- an OP_QUERY that isn't answered
 
-pub unasked : (fault : ServeFault) (old new : State) (bytes command : List ℕ) → IsQuery bytes command → (fault ≡ OutOfMemory) ⊎ ((fault ≡ NoHello) × (IsGreeting command → ⊥)) → HasCause fault old new [] bytes
+pub unasked : (fault : ServeFault) (old new : State) (bytes command : List ℕ) → IsQuery bytes command → (fault ≡ OutOfMemory) ⊎ ((fault ≡ NoHello) × (IsHello command → ⊥)) → HasCause fault old new [] bytes
 unasked fault old new bytes command is_query (inl memory) = subst (λ f. HasCause f old new [] bytes) (sym memory) (inl refl)
 unasked fault old new bytes command is_query (inr (other, none)) = subst (λ f. HasCause f old new [] bytes) (sym other) (refl, (command, is_query, none))
 
-pub unasked_counted : (fault : ServeFault) (old new : State) (command : List ℕ) → (fault ≡ OutOfMemory) ⊎ ((fault ≡ NoHello) × (IsGreeting command → ⊥)) → Lasts old new → CountsFault fault old new
+pub unasked_counted : (fault : ServeFault) (old new : State) (command : List ℕ) → (fault ≡ OutOfMemory) ⊎ ((fault ≡ NoHello) × (IsHello command → ⊥)) → Lasts old new → CountsFault fault old new
 unasked_counted fault old new command (inl memory) lasts = subst (λ f. CountsFault f old new) (sym memory) (lasts_unstopped old new lasts, lasts.writes)
 unasked_counted fault old new command (inr (other, none)) lasts = subst (λ f. CountsFault f old new) (sym other) (lasts_unstopped old new lasts, lasts.writes)

@@ -1,7 +1,7 @@
 pub mod Causes
-pub mod Greeted
 pub mod Lasts
 pub mod LineRead
+pub mod NoHello
 pub mod NoRequest
 pub mod Parts
 pub mod Queried

@@ -13,10 +13,10 @@ use Rattle.mongo_service.specs.declared.fault.ServeFault.TheVariants.{ReplyTooLo
 use Rattle.mongo_session.specs.declared.reply.Reply.{Reply}
 use Rattle.mongo_session.specs.declared.session.Session.{Session}
 use Rattle.mongo_session.specs.declared.serve_settings.ServeSettings.{ServeSettings}
-use Rattle.mongo_session.specs.Costs.{DocumentRounds, TakesRounds}
+use Rattle.mongo_session.specs.Costs.{DocumentRounds, CostsRounds}
 use Rattle.mongo_session.specs.Login.{HasLoggedIn, Remembers}
 use Rattle.mongo_session.specs.Replies.{document_of_served}
-use Rattle.mongo_session.specs.Requests.{IsGreeting}
+use Rattle.mongo_session.specs.Requests.{IsHello}
 use Rattle.mongo_service.specs.Cut.{HasCause, CountsFault, IsCut, IsPart}
 use Rattle.mongo_service.specs.Sent.{IsAnswerTo, IsLongMessage, IsLongReply, IsReplySent, IsSentInPart, IsSentToQuery, message_reply, query_reply, WantsNone, WriteCause}
 use Rattle.mongo_service.specs.Served.{FollowsHead, Lasts, PartEnds}
@@ -42,7 +42,7 @@ unsent fault n bytes is = let same : fault ≡ ReplyTooLong = cc in subst (λ f.
 
 -- an OP_MSG was taken and answered, and the answer sent or cut
 pub message_part : (settings : ServeSettings) (requests : List (List ℕ)) (old mid new : State) (first last : ℕ) (before : Session) (id : ℤ) (after : Session) (later : ℤ) (frame : List ℕ) (parts : Frame) (document : List ℕ) → IsFrame frame parts → parts.body ≡ document
-    → Consumes old.left mid.left frame → mid.written ≡ old.written → Lasts old mid → WritesOn mid new → (reply : Reply) → IsDocumentAnswered settings before document after reply → TakesRounds (DocumentRounds settings document) first last → Remembers settings (requests ++ document ∷ []) after
+    → Consumes old.left mid.left frame → mid.written ≡ old.written → Lasts old mid → WritesOn mid new → (reply : Reply) → IsDocumentAnswered settings before document after reply → CostsRounds (DocumentRounds settings document) first last → Remembers settings (requests ++ document ∷ []) after
     → (to : ℤ) → to ≡ parts.request_id → (flags : ℕ) → flags ≡ parts.flags → (r : Result ⊤ ServeFault) → OnOk r (new.write_faults ≡ mid.write_faults) → OnOk r (IsReplySent mid new to flags reply id later) → OnErr r (IsSentInPart mid new to flags reply id) → IfErr r (λ fault. WriteCause (IsLongMessage (document_of_served reply)) fault mid new)
     → PartEnds settings requests old new first last before id after later r
 message_part settings requests old mid new first last before id after later frame parts document is_frame body_is consumed unwritten lasts on reply answered cost remembers to to_is flags flags_are (Ok done) still h cut cause =
@@ -77,16 +77,16 @@ message_part settings requests old mid new first last before id after later fram
 
 -- an OP_QUERY was taken and answered, and the answer sent or cut
 pub query_part : (settings : ServeSettings) (requests : List (List ℕ)) (old mid new : State) (first last : ℕ) (before : Session) (id : ℤ) (after : Session) (later : ℤ) (head body command : List ℕ) → IsQuery (head ++ body) command → length head ≡ 16
-    → Consumes old.left mid.left (head ++ body) → mid.written ≡ old.written → Lasts old mid → WritesOn mid new → (reply : Reply) → IsDocumentAnswered settings before command after reply → TakesRounds (DocumentRounds settings command) first last → IsGreeting command
+    → Consumes old.left mid.left (head ++ body) → mid.written ≡ old.written → Lasts old mid → WritesOn mid new → (reply : Reply) → IsDocumentAnswered settings before command after reply → CostsRounds (DocumentRounds settings command) first last → IsHello command
     → Remembers settings (requests ++ command ∷ []) after → (to : ℤ) → to ≡ signed_at 4 head → (r : Result ⊤ ServeFault) → OnOk r (new.write_faults ≡ mid.write_faults) → OnOk r (IsSentToQuery mid new to reply id later)
     → OnErr r (AppendsFront mid.written new.written (query_reply id to (document_of_served reply))) → IfErr r (λ fault. WriteCause (IsLongReply (document_of_served reply)) fault mid new) → PartEnds settings requests old new first last before id after later r
-query_part settings requests old mid new first last before id after later head body command is_query sixteen consumed unwritten lasts on reply answered cost greeting remembers to to_is (Ok done) still h front cause =
+query_part settings requests old mid new first last before id after later head body command is_query sixteen consumed unwritten lasts on reply answered cost is_hello remembers to to_is (Ok done) still h front cause =
     let sent = query_reply id to (document_of_served reply) in
     let to_front : to ≡ signed_at 4 (take 16 (head ++ body)) = to_is ∙ ap (signed_at 4) (sym (take_at head body 16 sixteen)) in
     turn_taken settings requests old mid new first last before id after later (record { frame = head ++ body; document = command; sent = sent }) (inr is_query) consumed unwritten lasts still on h.appended (sent_flushed mid new sent h.appended h.flushed)
-    (record { reply = reply; answered = answered; sent = inr (is_query, greeting, (ap (λ t. query_reply id t (document_of_served reply)) to_front, h.drawn)) })
+    (record { reply = reply; answered = answered; sent = inr (is_query, is_hello, (ap (λ t. query_reply id t (document_of_served reply)) to_front, h.drawn)) })
     remembers cost
-query_part settings requests old mid new first last before id after later head body command is_query sixteen consumed unwritten lasts on reply answered cost greeting remembers to to_is (Err fault) still h front cause =
+query_part settings requests old mid new first last before id after later head body command is_query sixteen consumed unwritten lasts on reply answered cost is_hello remembers to to_is (Err fault) still h front cause =
     let n = part_of fault front.0 in
     let bytes = query_reply id to (document_of_served reply) in
     let sent = appends_part (IsLongReply (document_of_served reply)) fault front.0 bytes mid new front.1 cause in
@@ -98,7 +98,7 @@ query_part settings requests old mid new first last before id after later head b
       reply = reply;
       answered = answered;
       user_is = refl;
-      sent = inr (is_query, greeting, (n, ap (λ t. take n (query_reply id t (document_of_served reply))) to_front));
+      sent = inr (is_query, is_hello, (n, ap (λ t. take n (query_reply id t (document_of_served reply))) to_front));
       too_long = λ is. (inr (is_query, long_cause (IsLongReply (document_of_served reply)) fault mid new cause is), unsent fault front.0 bytes is);
     })
     consumed unwritten lasts on sent cause remembers.user cost

@@ -8,7 +8,7 @@ use Rattle.mongo_service.specs.declared.fault.ServeFault.TheVariants.{TooManyReq
 use Rattle.mongo_session.specs.declared.session.Session.{Session}
 use Rattle.mongo_session.specs.declared.serve_settings.ServeSettings.{ServeSettings}
 use Rattle.mongo_service.specs.Cut.{IsCut}
-use Rattle.mongo_session.specs.Costs.{AllRounds, TakesRounds}
+use Rattle.mongo_session.specs.Costs.{AllRounds, CostsRounds}
 use Rattle.mongo_session.specs.Login.{HasLoggedIn, Remembers}
 use Rattle.mongo_service.specs.Sent.{HasFlushed}
 use Rattle.mongo_service.specs.Served.{TakesTurn, NoTurn, HasServed, IsServed}
@@ -57,7 +57,7 @@ one_turn_more settings old mid new first mark last before id after later count h
       flushed = subst (HasFlushed old new) (sym sent) (flushed_on old mid new (sent_for h.turns) t.turn.sent h.appended h.flushed t.lasts.flushed t.flushed);
       lasts = lasts_on old mid new h.lasts t.lasts;
       remembers = subst (λ rs. Remembers settings rs after) (sym (documents_append h.turns one)) t.remembers;
-      cost = subst (λ rs. TakesRounds (AllRounds settings rs) first last) (sym (documents_append h.turns one)) (rounds_then settings (documents h.turns) t.turn.document first mark last h.cost t.cost);
+      cost = subst (λ rs. CostsRounds (AllRounds settings rs) first last) (sym (documents_append h.turns one)) (rounds_then settings (documents h.turns) t.turn.document first mark last h.cost t.cost);
     }
 
 pub has_ended : (settings : ServeSettings) (old mid new : State) (first mark last : ℕ) (before : Session) (id : ℤ) (after : Session) (count : ℕ) (h : HasServed settings old mid first mark before id count) → NoTurn mid new mark last before after
@@ -81,7 +81,7 @@ has_ended settings old mid new first mark last before id after count h n =
           subst (λ l. Consumes old.left new.left (l ++ [])) (ap joined_frames turns) (subst (Consumes old.left new.left) (sym (append-nil (joined_frames h.turns))) (Consumes-kept old.left mid.left new.left (joined_frames h.turns) h.consumed n.ended.keeps));
       appended = subst (λ l. Appends old.written new.written (sent_for l)) turns (subst (Appends old.written new.written) (append-nil (sent_for h.turns)) (Appends-trans old.written mid.written new.written (sent_for h.turns) [] h.appended n.appended));
       logged_in = subst (λ l. IfSome after.user (λ name. HasLoggedIn settings name (documents l))) turns (subst (λ s. IfSome s.user (λ name. HasLoggedIn settings name (documents h.turns))) (sym n.kept) h.remembers.user);
-      spent = subst (λ l. SpendsRounds settings (documents l) None [] first last) turns (all_spent settings (documents h.turns) None [] first last (subst (λ n. TakesRounds (AllRounds settings (documents h.turns)) first n) (sym n.unspent) h.cost));
+      spent = subst (λ l. SpendsRounds settings (documents l) None [] first last) turns (all_spent settings (documents h.turns) None [] first last (subst (λ n. CostsRounds (AllRounds settings (documents h.turns)) first n) (sym n.unspent) h.cost));
       counted = end_after old mid new h.lasts (n.ended.met, n.writes);
       cause = tt;
       whole = λ _. (refl, refl, n.ended.still);

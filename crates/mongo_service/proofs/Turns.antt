@@ -11,7 +11,7 @@ use Rattle.mongo_session.specs.declared.session.Session.{Session}
 use Rattle.mongo_session.specs.declared.serve_settings.ServeSettings.{ServeSettings}
 use Rattle.mongo_service.specs.Cut.{HasCause, CountsFault, IsCut, IsCutTurn, IsPart}
 use Rattle.mongo_session.specs.Login.{HasLoggedIn, Remembers}
-use Rattle.mongo_session.specs.Costs.{DocumentRounds, TakesRounds}
+use Rattle.mongo_session.specs.Costs.{DocumentRounds, CostsRounds}
 use Rattle.mongo_service.specs.Sent.{HasFlushed, WriteCause}
 use Rattle.mongo_service.specs.Served.{Lasts, TakesTurn}
 use Rattle.mongo_service.specs.Spent.{SpendsRounds}
@@ -42,7 +42,7 @@ one_joined f turn = append-nil (f turn)
 -- a request was taken, answered, and the answer sent
 pub turn_taken : (settings : ServeSettings) (requests : List (List ℕ)) (old mid new : State) (first last : ℕ) (before : Session) (id : ℤ) (after : Session) (later : ℤ) (turn : ServerTurn) → IsTurnTaken turn → Consumes old.left mid.left turn.frame → mid.written ≡ old.written
     → Lasts old mid → new.write_faults ≡ mid.write_faults → WritesOn mid new → Appends mid.written new.written turn.sent → HasFlushed mid new turn.sent → IsTurn settings before id turn after later → Remembers settings (requests ++ turn.document ∷ []) after
-    → TakesRounds (DocumentRounds settings turn.document) first last → TakesTurn settings requests old new first last before id after later
+    → CostsRounds (DocumentRounds settings turn.document) first last → TakesTurn settings requests old new first last before id after later
 turn_taken settings requests old mid new first last before id after later turn is_taken consumed unwritten lasts still on appended flushed is_turn remembers cost = record {
   turn = turn;
   is_taken = is_taken;
@@ -58,7 +58,7 @@ turn_taken settings requests old mid new first last before id after later turn i
 -- a request was taken, and its answer cut
 pub turn_cut : (too_long : Type 0) (settings : ServeSettings) (requests : List (List ℕ)) (old mid new : State) (first last : ℕ) (before : Session) (id : ℤ) (user : Option (List ℕ)) (fault : ServeFault) (turn : ServerTurn) → IsCutTurn settings before id user (Some fault) turn
     → Consumes old.left mid.left turn.frame → mid.written ≡ old.written → Lasts old mid → WritesOn mid new → Appends mid.written new.written turn.sent → WriteCause too_long fault mid new
-    → IfSome user (λ name. HasLoggedIn settings name (requests ++ turn.document ∷ [])) → TakesRounds (DocumentRounds settings turn.document) first last → IsCut settings requests old new first last before id user fault
+    → IfSome user (λ name. HasLoggedIn settings name (requests ++ turn.document ∷ [])) → CostsRounds (DocumentRounds settings turn.document) first last → IsCut settings requests old new first last before id user fault
 turn_cut too_long settings requests old mid new first last before id user fault turn is_cut consumed unwritten lasts on appended cause logged_in cost = record {
   turns = turn ∷ [];
   one = omega arith;

@@ -15,7 +15,7 @@ use Rattle.mongo_session.specs.Answers.{IsDocumentAnswered}
 use Rattle.mongo_session.specs.Login.{HasLoggedIn}
 use Rattle.mongo_server.specs.Announced.{maximum_message_length}
 use Rattle.mongo_session.specs.Replies.{document_of_served}
-use Rattle.mongo_session.specs.Requests.{IsGreeting}
+use Rattle.mongo_session.specs.Requests.{IsHello}
 use Rattle.mongo_service.specs.Sent.{CutsMessage, CutsQuery, IsLongMessage, IsLongReply}
 use Rattle.mongo_service.specs.Spent.{SpendsRounds}
 use Rattle.mongo_service.specs.Taken.{CarriesRequest, IsMessage, IsQuery}
@@ -26,7 +26,7 @@ use Rattle.mongo_service.specs.Turns.{ServerTurn, IsTurnTaken, joined_frames, do
 -- what was sent is a front of what answers the frame with a reply
 abbrev pub CutsIn : ServerTurn → Reply → ℤ → Type 0
 CutsIn turn reply id =
-    CutsMessage turn.frame turn.document reply id turn.sent ⊎ (IsQuery turn.frame turn.document × IsGreeting turn.document × CutsQuery turn.frame reply id turn.sent)
+    CutsMessage turn.frame turn.document reply id turn.sent ⊎ (IsQuery turn.frame turn.document × IsHello turn.document × CutsQuery turn.frame reply id turn.sent)
 
 -- the reply is longer than what answers the frame may be
 abbrev pub IsLong : ServerTurn → Reply → Type 0
@@ -64,7 +64,7 @@ IsPart bytes = IsStarted maximum_message_length bytes ⊎ (IsQueryFront bytes �
 
 -- an OP_QUERY that asks for another command than hello
 abbrev pub AsksOtherwise : List ℕ → Type 0
-AsksOtherwise bytes = (document : List ℕ) × IsQuery bytes document × (IsGreeting document → ⊥)
+AsksOtherwise bytes = (document : List ℕ) × IsQuery bytes document × (IsHello document → ⊥)
 
 -- the answer to one frame was cut, and nothing was taken after it
 abbrev pub CutsOne : List ServerTurn → List ℕ → Type 0

@@ -45,12 +45,12 @@ IsUnreported old new status = (status ≡ NoMemory) × NoWriteFailed old new
 
 -- A run that says this text of itself ends with the status that it is to end with, or with NoMemory where memory ran out for the text. A
 -- front of the text is written.
-pub record EndsTelling (old new : State) (text : List ℕ) (wanted status : ServeStatus) : Type 0 where
+pub record EndsReporting (old new : State) (text : List ℕ) (wanted status : ServeStatus) : Type 0 where
   pub front : AppendsFront old.written new.written text
   pub whole : ((status ≡ wanted) × IsReportedWhole old new text) ⊎ IsUnreported old new status
 
-abbrev pub TellsReport : ServeRun → List ℕ → ServeStatus → ServeStatus → Type 0
-TellsReport run text wanted status = EndsTelling run.report_old run.report_new text wanted status
+abbrev pub WritesReport : ServeRun → List ℕ → ServeStatus → ServeStatus → Type 0
+WritesReport run text wanted status = EndsReporting run.report_old run.report_new text wanted status
 
 -- The first line was read as these settings, what follows it was served, and status and report say how that ended.
 pub record Ran (run : ServeRun) (status : ServeStatus) : Type 0 where
@@ -59,27 +59,27 @@ pub record Ran (run : ServeRun) (status : ServeStatus) : Type 0 where
   pub after_line : IsAfterLine run.old between settings
   pub served : Served
   pub is_served : IsServed settings between run.new run.steps_old run.steps_new served
-  pub told : TellsReport run (report_text served) (status_of_fault served.fault) status
+  pub told : WritesReport run (report_text served) (status_of_fault served.fault) status
 
 -- nothing was written to the link
 abbrev pub SendsNothing : ServeRun → Type 0
 SendsNothing run = run.new.written ≡ run.old.written
 
 -- and no key was derived
-abbrev pub TakesNoStep : ServeRun → Type 0
-TakesNoStep run = run.steps_new ≡ run.steps_old
+abbrev pub CostsNoStep : ServeRun → Type 0
+CostsNoStep run = run.steps_new ≡ run.steps_old
 
 -- the first line is no settings
 abbrev pub HasBadLine : ServeRun → ServeStatus → Type 0
-HasBadLine run status = HasNoSettings run.old run.new × SendsNothing run × TellsReport run no_settings BadSettings status × TakesNoStep run
+HasBadLine run status = HasNoSettings run.old run.new × SendsNothing run × WritesReport run no_settings BadSettings status × CostsNoStep run
 
 -- the link failed within it
 abbrev pub FailsWithin : ServeRun → ServeStatus → Type 0
-FailsWithin run status = LineFails run.old run.new × SendsNothing run × TellsReport run line_failed Broken status × TakesNoStep run
+FailsWithin run status = LineFails run.old run.new × SendsNothing run × WritesReport run line_failed Broken status × CostsNoStep run
 
 -- memory ran out within it
 abbrev pub RunsOutWithin : ServeRun → ServeStatus → Type 0
-RunsOutWithin run status = LineRunsOut run.old run.new × SendsNothing run × TellsReport run no_memory NoMemory status × TakesNoStep run
+RunsOutWithin run status = LineRunsOut run.old run.new × SendsNothing run × WritesReport run no_memory NoMemory status × CostsNoStep run
 
 -- How a run without words ends. The link may fail, and memory run out, before there are settings: then no more than the first line was
 -- taken. Memory may run out for the report too, however the run is to end.
@@ -96,5 +96,5 @@ NeitherReadsNorWrites run = (run.new ≡ run.old) × (run.report_new ≡ run.rep
 
 -- how a run ends, with so many words after the program's name: it takes none
 abbrev pub ServeRunEnds : ℕ → ServeRun → ServeStatus → Type 0
-ServeRunEnds words run Usage = (0 < words) × NeitherReadsNorWrites run × TakesNoStep run
+ServeRunEnds words run Usage = (0 < words) × NeitherReadsNorWrites run × CostsNoStep run
 ServeRunEnds words run status = (words ≡ 0) × ServingEnds run status

@@ -9,7 +9,7 @@ use Rattle.mongo_service.specs.declared.serve.Served.{Served}
 use Rattle.mongo_session.specs.declared.session.Session.{Session}
 use Rattle.mongo_session.specs.declared.serve_settings.ServeSettings.{ServeSettings}
 use Rattle.mongo_service.specs.Cut.{CountsEnd, HasCause, CountsFault, IsCut, IsCutTurn, IsPart}
-use Rattle.mongo_session.specs.Costs.{AllRounds, DocumentRounds, TakesRounds}
+use Rattle.mongo_session.specs.Costs.{AllRounds, DocumentRounds, CostsRounds}
 use Rattle.mongo_session.specs.Login.{fresh, HasLoggedIn, Remembers}
 use Rattle.mongo_service.specs.Sent.{HasFlushed}
 use Rattle.mongo_service.specs.Spent.{SpendsRounds}
@@ -33,7 +33,7 @@ pub record TakesTurn (settings : ServeSettings) (requests : List (List ℕ)) (ol
   pub flushed : HasFlushed old new turn.sent
   pub lasts : Lasts old new
   pub remembers : Remembers settings (requests ++ turn.document ∷ []) after
-  pub cost : TakesRounds (DocumentRounds settings turn.document) first last
+  pub cost : CostsRounds (DocumentRounds settings turn.document) first last
 
 -- there was no turn: the client has ended its stream
 pub record NoTurn (old new : State) (first last : ℕ) (before after : Session) : Type 0 where
@@ -76,7 +76,7 @@ pub record HasServed (settings : ServeSettings) (old new : State) (first last : 
   pub flushed : HasFlushed old new (sent_for turns)
   pub lasts : Lasts old new
   pub remembers : Remembers settings (documents turns) session
-  pub cost : TakesRounds (AllRounds settings (documents turns)) first last
+  pub cost : CostsRounds (AllRounds settings (documents turns)) first last
 
 -- why a stream was left after so many turns
 abbrev pub HasCauseAfter : ServeFault → ℕ → State → State → List ServerTurn → List ℕ → Type 0

@@ -4,7 +4,7 @@ use Rattle.mongo_session.specs.declared.reply.Reply.{Reply}
 use Rattle.mongo_session.specs.declared.session.Session.{Session}
 use Rattle.mongo_session.specs.declared.serve_settings.ServeSettings.{ServeSettings}
 use Rattle.mongo_session.specs.Answers.{IsDocumentAnswered}
-use Rattle.mongo_session.specs.Requests.{IsGreeting}
+use Rattle.mongo_session.specs.Requests.{IsHello}
 use Rattle.mongo_service.specs.Sent.{AnswersMessage, AnswersQuery}
 use Rattle.mongo_service.specs.Taken.{CarriesRequest, IsQuery}
 
@@ -35,7 +35,7 @@ sent_for turns = flat_map (λ t. t.sent) turns
 -- one after it that.
 abbrev pub AnswersIn : ServerTurn → Reply → ℤ → ℤ → Type 0
 AnswersIn turn reply id later =
-    AnswersMessage turn.frame turn.document reply id later turn.sent ⊎ (IsQuery turn.frame turn.document × IsGreeting turn.document × AnswersQuery turn.frame reply id later turn.sent)
+    AnswersMessage turn.frame turn.document reply id later turn.sent ⊎ (IsQuery turn.frame turn.document × IsHello turn.document × AnswersQuery turn.frame reply id later turn.sent)
 
 -- a turn: the request was answered by the session, and the reply sent
 pub record IsTurn (settings : ServeSettings) (before : Session) (id : ℤ) (turn : ServerTurn) (after : Session) (later : ℤ) : Type 0 where

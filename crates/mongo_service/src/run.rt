@@ -2,7 +2,7 @@
 
 ghost use Rattle.std.specs.Prelude.{◌≡◌, ◌<◌, ℕ, length};
 ghost use Rattle.mongo_service.specs.Report.{report_text};
-ghost use Rattle.mongo_service.specs.Run.{status_of_fault, ServingEnds, ServeRunEnds, EndsTelling};
+ghost use Rattle.mongo_service.specs.Run.{status_of_fault, ServingEnds, ServeRunEnds, EndsReporting};
 
 use crate::fault::ServeFault;
 use crate::report::report_text;
@@ -97,7 +97,7 @@ fn status_of_fault(fault: Option<ServeFault>) -> ServeStatus
 
 // Says how a stream was left, and answers how the run ends.
 fn tell<K: Sink>(alloc: Global, report: &mut K, served: &Served) -> ServeStatus
-    ensures { EndsTelling (K.state report.old) (K.state report.new) (report_text served.now) (status_of_fault served.now.fault) result }
+    ensures { EndsReporting (K.state report.old) (K.state report.new) (report_text served.now) (status_of_fault served.now.fault) result }
 {
     match report_text(alloc, served) {
         Ok(text) => say(report, text.as_bytes(), status_of_fault(served.fault)),
@@ -107,7 +107,7 @@ fn tell<K: Sink>(alloc: Global, report: &mut K, served: &Served) -> ServeStatus
 
 // Says a line or more on the report, and answers how the run ends: as it is to, also where the report fails, but for want of memory.
 fn say<K: Sink>(report: &mut K, text: &[u8], wanted: ServeStatus) -> ServeStatus
-    ensures { EndsTelling (K.state report.old) (K.state report.new) text.now wanted result }
+    ensures { EndsReporting (K.state report.old) (K.state report.new) text.now wanted result }
 {
     match send_bytes(report, text) {
         Ok(()) => wanted,

@@ -4,10 +4,10 @@ ghost use Rattle.std.specs.Prelude.{◌≡◌, ℕ, pos, ◌+◌, ◌<ℤ◌, �
 ghost use Rattle.mongo_wire.specs.Header.{header_bytes};
 ghost use Rattle.mongo_wire.specs.Outside.{State};
 ghost use Rattle.mongo_session.specs.Answers.{IsDocumentAnswered};
-ghost use Rattle.mongo_session.specs.Costs.{DocumentRounds, TakesAtMost, TakesRounds};
+ghost use Rattle.mongo_session.specs.Costs.{DocumentRounds, CostsAtMost, CostsRounds};
 ghost use Rattle.mongo_session.specs.Login.{Remembers};
 ghost use Rattle.mongo_server.specs.Announced.{maximum_message_length};
-ghost use Rattle.mongo_session.specs.Requests.{IsGreeting};
+ghost use Rattle.mongo_session.specs.Requests.{IsHello};
 ghost use Rattle.mongo_service.specs.Served.{FollowsHead, TurnEnds, PartEnds, IsServed};
 ghost use Rattle.mongo_service.specs.declared.fault.ServeFault.TheVariants.{NoHello, OutOfMemory};
 ghost use Rattle.mongo_wire.specs.declared.op_code.OpCode.TheVariants.{Message, Query};
@@ -19,7 +19,7 @@ use crate::respond::{respond, respond_to_query};
 use mongo_bson::{RawDocument, Text};
 use mongo_mac::Steps;
 use mongo_server::MAXIMUM_MESSAGE_LENGTH;
-use mongo_session::{Reply, Request, ServeSettings, Session, answer_request, greet, request_of};
+use mongo_session::{Reply, Request, ServeSettings, Session, answer_request, answer_hello, request_of};
 use mongo_wire::{FrameBuffer, Header, Link, OpCode, RequestIds, fill_or_end};
 use std::alloc::Global;
 use std::sync::ledger::Ledger;
@@ -165,8 +165,8 @@ fn answer_document<G: Ledger>(
     ensures answered { IfOk result (IsDocumentAnswered settings.now session.old document.entry.bytes.now session.new) }
     ensures kept { OnErr result (session.new.user ≡ session.old.user) }
     ensures refused { IfErr result (λ fault. fault ≡ OutOfMemory) }
-    ensures cost { OnOk result (TakesRounds (DocumentRounds settings.now document.entry.bytes.now) steps.old steps.new) }
-    ensures at_most { OnErr result (TakesAtMost (DocumentRounds settings.now document.entry.bytes.now) steps.old steps.new) }
+    ensures cost { OnOk result (CostsRounds (DocumentRounds settings.now document.entry.bytes.now) steps.old steps.new) }
+    ensures at_most { OnErr result (CostsAtMost (DocumentRounds settings.now document.entry.bytes.now) steps.old steps.new) }
 {
     match answer_request(alloc, settings, session, request_of(document), steps) {
         Ok(reply) => Ok(reply),
@@ -197,7 +197,7 @@ fn take_query<L: Link, G: Ledger>(
     let Some(command) = command_of_query(body.as_slice()) else {
         return Err(ServeFault::NoFrame);
     };
-    match greet_query(alloc, settings, &mut serving.session, command, steps) {
+    match answer_query(alloc, settings, &mut serving.session, command, steps) {
         Ok(reply) => { respond_to_query(alloc, link, header.request_id, &reply, &mut serving.ids) }
         Err(fault) => Err(fault),
     }
@@ -217,7 +217,7 @@ fn length_after(length: i32) -> Option<usize>
 }
 
 // Answers a query's document, which has to ask for a hello.
-fn greet_query<G: Ledger>(
+fn answer_query<G: Ledger>(
     alloc: Global,
     settings: &ServeSettings,
     session: &mut Session,
@@ -226,15 +226,15 @@ fn greet_query<G: Ledger>(
 ) -> Result<Reply, ServeFault>
     ensures remembers { (requests : List (List ℕ)) → Remembers settings.now requests session.old → OnOk result (Remembers settings.now (requests ++ document.entry.bytes.now ∷ []) session.new) }
     ensures answered { IfOk result (IsDocumentAnswered settings.now session.old document.entry.bytes.now session.new) }
-    ensures greeting { OnOk result (IsGreeting document.entry.bytes.now) }
+    ensures is_hello { OnOk result (IsHello document.entry.bytes.now) }
     ensures kept { OnErr result (session.new.user ≡ session.old.user) }
-    ensures refused { IfErr result (λ fault. (fault ≡ OutOfMemory) ⊎ ((fault ≡ NoHello) × (IsGreeting document.entry.bytes.now → ⊥))) }
-    ensures cost { OnOk result (TakesRounds (DocumentRounds settings.now document.entry.bytes.now) steps.old steps.new) }
-    ensures at_most { OnErr result (TakesAtMost (DocumentRounds settings.now document.entry.bytes.now) steps.old steps.new) }
+    ensures refused { IfErr result (λ fault. (fault ≡ OutOfMemory) ⊎ ((fault ≡ NoHello) × (IsHello document.entry.bytes.now → ⊥))) }
+    ensures cost { OnOk result (CostsRounds (DocumentRounds settings.now document.entry.bytes.now) steps.old steps.new) }
+    ensures at_most { OnErr result (CostsAtMost (DocumentRounds settings.now document.entry.bytes.now) steps.old steps.new) }
     ensures no_cost { IfErr result (λ fault. fault ≡ NoHello → steps.new ≡ steps.old) }
 {
     match request_of(document) {
-        Request::Hello(hello) => match greet(alloc, settings, session, hello, steps) {
+        Request::Hello(hello) => match answer_hello(alloc, settings, session, hello, steps) {
             Ok(reply) => Ok(Reply::Hello(reply)),
             Err(_) => Err(ServeFault::OutOfMemory),
         },

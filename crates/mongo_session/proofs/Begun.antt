@@ -22,10 +22,10 @@ use Rattle.mongo_wire.specs.declared.error.ErrorKind.{ErrorKind}
 use Rattle.mongo_wire.specs.declared.error.ErrorKind.TheVariants.{OutOfMemory as WantOfMemory}
 use Rattle.mongo_session.specs.Accounts.{AreOfOneUser, IsFirstAccount}
 use Rattle.mongo_session.specs.Login.{authentication_of}
-use Rattle.mongo_session.specs.Opened.{NamesUser, Suits, IsFound, IsOpening, BeginsAuthentication, OpensFor, OpensBy}
+use Rattle.mongo_session.specs.Started.{NamesUser, Suits, IsFound, IsStartFor, BeginsAuthentication, StartsFor, StartsBy}
 use Rattle.mongo_session.specs.Sasl.{AsksFor}
 use Rattle.mongo_bson.specs.declared.fault.BsonFault.{BsonFault}
-use Rattle.mongo_session.specs.declared.open.OpenedLogin.{OpenedLogin}
+use Rattle.mongo_session.specs.declared.start.StartedLogin.{StartedLogin}
 use Rattle.mongo_session.specs.declared.request.StartRequest.{StartRequest}
 use Rattle.mongo_session.specs.declared.serve_settings.Account.{Account}
 use Rattle.mongo_session.specs.declared.serve_settings.ServeSettings.{ServeSettings}
@@ -76,7 +76,7 @@ pub begins : (account : Account) (suffix message : List ℕ) (old new : ServerCo
     → (nonce : List ℕ) → IsClientFirst message (username_of old) nonce
     → ((x : Authentication) → Serves old x → IsNonce x.nonce → message ≡ open_of x → IsReadAs text x × HasBegun new x)
     → (copy : List ℕ) (skips : Bool) → copy ≡ account.name
-    → OpensFor account suffix message skips (Some (record { login = record { core = new; name = copy; skips_empty_exchange = skips; is_proved = false }; answer = text }))
+    → StartsFor account suffix message skips (Some (record { login = record { core = new; name = copy; skips_empty_exchange = skips; is_proved = false }; answer = text }))
 begins account suffix message old new text user name password salt named worded salted h user_is suffix_is usable nonce first accepts copy skips copied =
     let x = authentication_of account suffix nonce in
     let serves : Serves old x = served_by account suffix nonce old user name password salt named worded salted h user_is suffix_is in
@@ -133,9 +133,9 @@ module _ (settings : ServeSettings) (start : StartRequest) (version : ScramVersi
     first = all_weaker (λ other. Suits version message.now other → ⊥) (λ other. AreOfOneUser other account → ⊥) found.before (λ other none one. none (suits_too other account found.suits one)) found.others;
   }
 
-  pub opens_by : (account : Account) (suffix : List ℕ) → IsFound settings.accounts.items version message.now account → suffix ≡ settings.suffix
-      → (found : Option OpenedLogin) → OpensFor account suffix message.now start.skips_empty_exchange found → OpensBy settings start found
-  opens_by account suffix is suffix_is None none = λ x asked.
+  pub starts_by : (account : Account) (suffix : List ℕ) → IsFound settings.accounts.items version message.now account → suffix ≡ settings.suffix
+      → (found : Option StartedLogin) → StartsFor account suffix message.now start.skips_empty_exchange found → StartsBy settings start found
+  starts_by account suffix is suffix_is None none = λ x asked.
       let of = asked.of_settings in
       let same : of.account ≡ account = one_first_account settings.accounts.items of.account account of.counts (is_first account is) (of_one_user of.account account (asked_suits x asked) is.suits) in
       let said : message.now ≡ open_message of.account.name x.nonce = same_text start.payload message (open_of x) message_is asked.said ∙ ap open_of of.authentication_is in
@@ -144,7 +144,7 @@ module _ (settings : ServeSettings) (start : StartRequest) (version : ScramVersi
         printable = of.printable;
         said = said ∙ ap (λ (a : Account). open_message a.name x.nonce) same;
       })
-  opens_by account suffix is suffix_is (Some opened) (nonce, opening, has_begun) =
+  starts_by account suffix is suffix_is (Some opened) (nonce, opening, has_begun) =
       let x = authentication_of account settings.suffix nonce in (
         x,
         record {
@@ -155,33 +155,33 @@ module _ (settings : ServeSettings) (start : StartRequest) (version : ScramVersi
         subst (λ s. BeginsAuthentication (authentication_of account s nonce) start.skips_empty_exchange opened) suffix_is has_begun,
       )
 
-  pub opens_all : (account : Account) (suffix : List ℕ) → IsFound settings.accounts.items version message.now account → suffix ≡ settings.suffix
-      → (r : Result (Option OpenedLogin) BsonFault) → IfOk r (OpensFor account suffix message.now start.skips_empty_exchange) → IfOk r (OpensBy settings start)
-  opens_all account suffix is suffix_is (Ok found) h = opens_by account suffix is suffix_is found h
-  opens_all account suffix is suffix_is (Err fault) h = tt
+  pub starts_all : (account : Account) (suffix : List ℕ) → IsFound settings.accounts.items version message.now account → suffix ≡ settings.suffix
+      → (r : Result (Option StartedLogin) BsonFault) → IfOk r (StartsFor account suffix message.now start.skips_empty_exchange) → IfOk r (StartsBy settings start)
+  starts_all account suffix is suffix_is (Ok found) h = starts_by account suffix is suffix_is found h
+  starts_all account suffix is suffix_is (Err fault) h = tt
 
 -- ---- where none begins
 
 -- no authentication of an account whose password its mechanism doesn't take
-unusable : (account : Account) (suffix message password : List ℕ) (kind : ErrorKind) → password ≡ account.password → PasswordRow account.version password kind → (nonce : List ℕ) → IsOpening account suffix message nonce → ⊥
+unusable : (account : Account) (suffix message password : List ℕ) (kind : ErrorKind) → password ≡ account.password → PasswordRow account.version password kind → (nonce : List ℕ) → IsStartFor account suffix message nonce → ⊥
 unusable account suffix message password kind worded row nonce opening = opening.usable kind (subst (λ w. PasswordRow account.version w kind) worded row)
 
 -- where the mechanism doesn't take the password, no message begins a login
-pub unopened : (result : Result (Option OpenedLogin) BsonFault) (account : Account) (suffix message : List ℕ) (skips : Bool) (password : List ℕ) (kind : ErrorKind) → password ≡ account.password → PasswordRow account.version password kind ⊎ (kind ≡ WantOfMemory)
-    → IfOk result (λ found. (found ≡ None) × (kind ≢ WantOfMemory)) → IfOk result (OpensFor account suffix message skips)
+pub unopened : (result : Result (Option StartedLogin) BsonFault) (account : Account) (suffix message : List ℕ) (skips : Bool) (password : List ℕ) (kind : ErrorKind) → password ≡ account.password → PasswordRow account.version password kind ⊎ (kind ≡ WantOfMemory)
+    → IfOk result (λ found. (found ≡ None) × (kind ≢ WantOfMemory)) → IfOk result (StartsFor account suffix message skips)
 unopened (Ok None) account suffix message skips password kind worded refused none = λ nonce opening. elim refused [
   | inl row ↦ unusable account suffix message password kind worded row nonce opening
   | inr memory ↦ none.1 memory
 ]
-unopened (Ok (Some opened)) account suffix message skips password kind worded refused none = absurd (none_opened none.0)
+unopened (Ok (Some opened)) account suffix message skips password kind worded refused none = absurd (none_started none.0)
   where
-    none_opened : Some opened ≡ None → ⊥
-    none_opened is = cc
+    none_started : Some opened ≡ None → ⊥
+    none_started is = cc
 unopened (Err fault) account suffix message skips password kind worded refused none = tt
 
 -- nor of a message that its server refuses
 pub unheard : (account : Account) (suffix message : List ℕ) (core : ServerCore) (user : ServerUser) (name password salt : List ℕ) (fault : ServerFault) → name ≡ account.name → password ≡ account.password → salt ≡ account.salt
     → IsUserOf account.version name password salt account.count user → server_user core ≡ user → suffix_of core ≡ suffix
-    → ((x : Authentication) → Serves core x → IsNonce x.nonce → message ≡ open_of x → fault ≡ OutOfMemory) → (fault ≡ OutOfMemory → ⊥) → (nonce : List ℕ) → IsOpening account suffix message nonce → ⊥
+    → ((x : Authentication) → Serves core x → IsNonce x.nonce → message ≡ open_of x → fault ≡ OutOfMemory) → (fault ≡ OutOfMemory → ⊥) → (nonce : List ℕ) → IsStartFor account suffix message nonce → ⊥
 unheard account suffix message core user name password salt fault named worded salted h user_is suffix_is accepts not_memory nonce opening =
     not_memory (accepts (authentication_of account suffix nonce) (served_by account suffix nonce core user name password salt named worded salted h user_is suffix_is) opening.printable opening.said)

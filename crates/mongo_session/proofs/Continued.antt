@@ -8,19 +8,19 @@ use Rattle.mongo_session.specs.Sasl.{GoesOn, AnswersContinue}
 use Rattle.mongo_bson.specs.declared.fault.BsonFault.{BsonFault}
 use Rattle.mongo_session.specs.declared.reply.SaslReply.{SaslReply}
 use Rattle.mongo_session.specs.declared.request.ContinueRequest.{ContinueRequest}
-use Rattle.mongo_session.specs.declared.session.OpenLogin.{OpenLogin}
+use Rattle.mongo_session.specs.declared.session.PendingLogin.{PendingLogin}
 use Rattle.mongo_session.specs.declared.session.Session.{Session}
 
 differ : {b : Bool} → b ≡ false → b ≡ true → ⊥
 differ p q = cc
 
-one_login : (a b : OpenLogin) (held : Option OpenLogin) → held ≡ Some a → held ≡ Some b → a ≡ b
+one_login : (a b : PendingLogin) (held : Option PendingLogin) → held ≡ Some a → held ≡ Some b → a ≡ b
 one_login a b held p q = let same : Some a ≡ Some b = sym p ∙ q in cc
 
 one_message : (given : Option (Bor (List ℕ))) (message : Bor (List ℕ)) (text : List ℕ) → given ≡ Some message → option_copied given ≡ Some text → message.now ≡ text
 one_message given message text is said = let same : Some message.now ≡ Some text = sym (ap option_copied is) ∙ said in cc
 
-module _ (old : Session) (next : ContinueRequest) (login : OpenLogin) (message : Bor (List ℕ)) (rest : Option OpenLogin) (held : old.login ≡ Some login) (given : next.payload ≡ Some message) (of_conversation : next.is_of_conversation ≡ true) (taken : rest ≡ None)
+module _ (old : Session) (next : ContinueRequest) (login : PendingLogin) (message : Bor (List ℕ)) (rest : Option PendingLogin) (held : old.login ≡ Some login) (given : next.payload ≡ Some message) (of_conversation : next.is_of_conversation ≡ true) (taken : rest ≡ None)
   where
     goes_on : GoesOn old next login message.now
     goes_on = record { of_conversation = of_conversation; held = held; said = ap option_copied given }
@@ -32,9 +32,9 @@ module _ (old : Session) (next : ContinueRequest) (login : OpenLogin) (message :
     last : login.is_proved ≡ false → (new : Session) (answer : Option SaslReply) → AnswersLast (record { user = old.user; login = rest }) login message.now new answer → AnswersContinue old next new answer
     last unproved new (Some answer) h = inl (record { login = login; message = message.now; goes_on = goes_on; unproved = unproved; closes = h.closes; done_is = h.done_is; new_is = h.new_is })
     last unproved new None h = (
-      λ (x : Authentication) (other : OpenLogin) closes.
-          h.0 x (subst (λ (l : OpenLogin). HasBegun l.core x) (one_login other login old.login closes.goes_on.held held) closes.begun) (one_message next.payload message (close_of x) given closes.goes_on.said),
-      λ (other : OpenLogin) ends. differ (ap (λ (l : OpenLogin). l.is_proved) (one_login other login old.login ends.goes_on.held held) ∙ unproved) ends.proved,
+      λ (x : Authentication) (other : PendingLogin) closes.
+          h.0 x (subst (λ (l : PendingLogin). HasBegun l.core x) (one_login other login old.login closes.goes_on.held held) closes.begun) (one_message next.payload message (close_of x) given closes.goes_on.said),
+      λ (other : PendingLogin) ends. differ (ap (λ (l : PendingLogin). l.is_proved) (one_login other login old.login ends.goes_on.held held) ∙ unproved) ends.proved,
       given_up new h.1,
     )
 
@@ -46,8 +46,8 @@ module _ (old : Session) (next : ContinueRequest) (login : OpenLogin) (message :
     empty : login.is_proved ≡ true → (new : Session) (answer : Option SaslReply) → AnswersEmpty (record { user = old.user; login = rest }) login message.now new answer → AnswersContinue old next new answer
     empty proved new (Some answer) h = inr (record { login = login; ends = record { goes_on = subst (GoesOn old next login) h.0 goes_on; proved = proved }; answer_is = h.1; new_is = h.2 })
     empty proved new None h = (
-      λ (x : Authentication) (other : OpenLogin) closes. differ closes.unproved (ap (λ (l : OpenLogin). l.is_proved) (one_login other login old.login closes.goes_on.held held) ∙ proved),
-      λ (other : OpenLogin) ends. h.0 (one_message next.payload message [] given ends.goes_on.said),
+      λ (x : Authentication) (other : PendingLogin) closes. differ closes.unproved (ap (λ (l : PendingLogin). l.is_proved) (one_login other login old.login closes.goes_on.held held) ∙ proved),
+      λ (other : PendingLogin) ends. h.0 (one_message next.payload message [] given ends.goes_on.said),
       given_up new h.1,
     )
 

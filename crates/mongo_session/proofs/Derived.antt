@@ -8,9 +8,9 @@ use Rattle.mongo_scram.specs.declared.scram_version.ScramVersion.{ScramVersion}
 use Rattle.mongo_scram.specs.declared.scram_version.ScramVersion.TheVariants.{Sha1, Sha256}
 use Rattle.mongo_wire.specs.declared.error.ErrorKind.{ErrorKind}
 use Rattle.mongo_wire.specs.declared.error.ErrorKind.TheVariants.{OutOfMemory}
-use Rattle.mongo_session.specs.Costs.{KeyRounds, StartFinds, StartRounds, TakesAtMost, TakesPassword, TakesRounds}
-use Rattle.mongo_session.specs.Opened.{NamesUser, Suits, IsFound}
-use Rattle.mongo_session.specs.declared.open.OpenedLogin.{OpenedLogin}
+use Rattle.mongo_session.specs.Costs.{KeyRounds, StartFinds, StartRounds, CostsAtMost, HasUsablePassword, CostsRounds}
+use Rattle.mongo_session.specs.Started.{NamesUser, Suits, IsFound}
+use Rattle.mongo_session.specs.declared.start.StartedLogin.{StartedLogin}
 use Rattle.mongo_session.specs.declared.request.StartRequest.{StartRequest}
 use Rattle.mongo_session.specs.declared.serve_settings.Account.{Account}
 use Rattle.mongo_session.specs.declared.serve_settings.ServeSettings.{ServeSettings}
@@ -26,28 +26,28 @@ no_memory_row Sha256 password (inl row) = let never = row.0 in cc
 no_memory_row Sha256 password (inr row) = let never = row.1.0 in cc
 
 module _ (account : Account) (password : List ℕ) (worded : password ≡ account.password) (old new : ℕ) where
-  password_taken : ((kind : ErrorKind) → PasswordRow account.version password kind → ⊥) → TakesPassword account
+  password_taken : ((kind : ErrorKind) → PasswordRow account.version password kind → ⊥) → HasUsablePassword account
   password_taken usable = subst (λ w. (kind : ErrorKind) → PasswordRow account.version w kind → ⊥) worded usable
 
   -- the key was derived
-  pub key_derived : ((kind : ErrorKind) → PasswordRow account.version password kind → ⊥) → new ≡ old + account.count → TakesRounds (KeyRounds account) old new
+  pub key_derived : ((kind : ErrorKind) → PasswordRow account.version password kind → ⊥) → new ≡ old + account.count → CostsRounds (KeyRounds account) old new
   key_derived usable cost = (account.count, inl (password_taken usable, refl), cost)
 
   -- the mechanism doesn't take the password, or memory ran out
-  pub none_derived : (result : Result (Option OpenedLogin) BsonFault) (kind : ErrorKind) → PasswordRow account.version password kind ⊎ (kind ≡ OutOfMemory) → (kind ≢ OutOfMemory → new ≡ old)
-      → IfOk result (λ found. (found ≡ None) × (kind ≢ OutOfMemory)) → OnOk result (TakesRounds (KeyRounds account) old new)
+  pub none_derived : (result : Result (Option StartedLogin) BsonFault) (kind : ErrorKind) → PasswordRow account.version password kind ⊎ (kind ≡ OutOfMemory) → (kind ≢ OutOfMemory → new ≡ old)
+      → IfOk result (λ found. (found ≡ None) × (kind ≢ OutOfMemory)) → OnOk result (CostsRounds (KeyRounds account) old new)
   none_derived (Ok found) kind (inl row) none is = (0, inr (λ usable. usable kind (subst (λ w. PasswordRow account.version w kind) worded row), refl), omega (arith, none is.1))
   none_derived (Ok found) kind (inr memory) none is = absurd (is.1 memory)
   none_derived (Err fault) kind refused none is = tt
 
   some_derived : (kind : ErrorKind) → PasswordRow account.version password kind ⊎ (kind ≡ OutOfMemory) → ((other : ErrorKind) → PasswordRow account.version password other → kind ≡ other) → (kind ≢ OutOfMemory → new ≡ old) → old ≤ new → new ≤ old + account.count
-      → TakesAtMost (KeyRounds account) old new
+      → CostsAtMost (KeyRounds account) old new
   some_derived kind (inl row) exact none rises most = (rises, inl (none (λ memory. no_memory_row account.version password (subst (PasswordRow account.version password) memory row))))
   some_derived kind (inr memory) exact none rises most =
       (rises, inr (account.count, inl (password_taken (λ other row. no_memory_row account.version password (subst (PasswordRow account.version password) (sym (exact other row) ∙ memory) row)), refl), most))
 
-  pub at_most_derived : (result : Result (Option OpenedLogin) BsonFault) (kind : ErrorKind) → PasswordRow account.version password kind ⊎ (kind ≡ OutOfMemory) → ((other : ErrorKind) → PasswordRow account.version password other → kind ≡ other) → (kind ≢ OutOfMemory → new ≡ old)
-      → old ≤ new → new ≤ old + account.count → OnErr result (TakesAtMost (KeyRounds account) old new)
+  pub at_most_derived : (result : Result (Option StartedLogin) BsonFault) (kind : ErrorKind) → PasswordRow account.version password kind ⊎ (kind ≡ OutOfMemory) → ((other : ErrorKind) → PasswordRow account.version password other → kind ≡ other) → (kind ≢ OutOfMemory → new ≡ old)
+      → old ≤ new → new ≤ old + account.count → OnErr result (CostsAtMost (KeyRounds account) old new)
   at_most_derived (Ok found) kind refused exact none rises most = tt
   at_most_derived (Err fault) kind refused exact none rises most = some_derived kind refused exact none rises most
 
@@ -63,13 +63,13 @@ module _ (settings : ServeSettings) (start : StartRequest) (version : ScramVersi
   }
 
   -- what was derived at the account that was found
-  pub start_cost : (account : Account) → IsFound settings.accounts.items version message.now account → (old new : ℕ) (result : Result (Option OpenedLogin) BsonFault)
-      → OnOk result (TakesRounds (KeyRounds account) old new) → OnOk result (TakesRounds (StartRounds settings start) old new)
+  pub start_cost : (account : Account) → IsFound settings.accounts.items version message.now account → (old new : ℕ) (result : Result (Option StartedLogin) BsonFault)
+      → OnOk result (CostsRounds (KeyRounds account) old new) → OnOk result (CostsRounds (StartRounds settings start) old new)
   start_cost account found old new (Ok opened) (rounds, derived, steps) = (rounds, inl (account, start_finds account found, derived), steps)
   start_cost account found old new (Err fault) h = tt
 
-  pub start_at_most : (account : Account) → IsFound settings.accounts.items version message.now account → (old new : ℕ) (result : Result (Option OpenedLogin) BsonFault)
-      → OnErr result (TakesAtMost (KeyRounds account) old new) → OnErr result (TakesAtMost (StartRounds settings start) old new)
+  pub start_at_most : (account : Account) → IsFound settings.accounts.items version message.now account → (old new : ℕ) (result : Result (Option StartedLogin) BsonFault)
+      → OnErr result (CostsAtMost (KeyRounds account) old new) → OnErr result (CostsAtMost (StartRounds settings start) old new)
   start_at_most account found old new (Ok opened) h = tt
   start_at_most account found old new (Err fault) (rises, inl none) = (rises, inl none)
   start_at_most account found old new (Err fault) (rises, inr (rounds, derived, most)) = (rises, inr (rounds, inl (account, start_finds account found, derived), most))
@@ -81,7 +81,7 @@ module _ (settings : ServeSettings) (start : StartRequest) (version : ScramVersi
       let suits : Suits version message.now account = (sym (same_version version account.version start.version version_is finds.version_is), subst (λ m. NamesUser m account.name) (sym (same_text start.payload message finds.message message_is finds.said)) found.suits.1) in
       all_split (λ other. Suits version message.now other → ⊥) found.before found.after account (subst (AllByRecursion (λ other. Suits version message.now other → ⊥)) found.split none) suits
 
-pub no_rounds : (settings : ServeSettings) (start : StartRequest) (old : ℕ) → ((account : Account) → StartFinds settings start account → ⊥) → TakesRounds (StartRounds settings start) old old
+pub no_rounds : (settings : ServeSettings) (start : StartRequest) (old : ℕ) → ((account : Account) → StartFinds settings start account → ⊥) → CostsRounds (StartRounds settings start) old old
 no_rounds settings start old none = (0, inr (none, refl), omega arith)
 
 -- what is so is so of a refusal

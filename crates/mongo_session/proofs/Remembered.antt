@@ -2,19 +2,19 @@
 use Rattle.std.proofs.Common.{◌≡◌, ℕ, Bool, true, false, Option, None, Some, IfSome, List, [], ◌∷◌, ◌++◌, option_copied, refl, sym, ap, ◌∙◌, subst, append_assoc}
 use Rattle.std.specs.Borrow.{Bor}
 use Rattle.mongo_server.specs.Authentication.{Authentication, open_of, close_of}
-use Rattle.mongo_session.specs.declared.open.OpenedLogin.{OpenedLogin}
+use Rattle.mongo_session.specs.declared.start.StartedLogin.{StartedLogin}
 use Rattle.mongo_session.specs.declared.request.StartRequest.{StartRequest}
-use Rattle.mongo_session.specs.declared.session.OpenLogin.{OpenLogin}
+use Rattle.mongo_session.specs.declared.session.PendingLogin.{PendingLogin}
 use Rattle.mongo_session.specs.declared.session.Session.{Session}
 use Rattle.mongo_session.specs.declared.serve_settings.ServeSettings.{ServeSettings}
-use Rattle.mongo_session.specs.Requests.{OpensLogin, SaysSaslContinue}
-use Rattle.mongo_session.specs.Login.{HasOpened, HasProved, HasLoggedIn, IsOpenLogin, Remembers}
-use Rattle.mongo_session.specs.Opened.{OpensBy}
+use Rattle.mongo_session.specs.Requests.{StartsLogin, SaysSaslContinue}
+use Rattle.mongo_session.specs.Login.{HasStarted, HasProved, HasLoggedIn, IsPendingLogin, Remembers}
+use Rattle.mongo_session.specs.Started.{StartsBy}
 
 -- ---- one request more
 
-pub opened_later : (x : Authentication) (requests : List (List ℕ)) (d : List ℕ) → HasOpened x requests → HasOpened x (requests ++ d ∷ [])
-opened_later x requests d h = record {
+pub started_later : (x : Authentication) (requests : List (List ℕ)) (d : List ℕ) → HasStarted x requests → HasStarted x (requests ++ d ∷ [])
+started_later x requests d h = record {
   before = h.before;
   request = h.request;
   after = h.after ++ d ∷ [];
@@ -22,8 +22,8 @@ opened_later x requests d h = record {
   opens = h.opens;
 }
 
-pub opened_now : (x : Authentication) (requests : List (List ℕ)) (d : List ℕ) → OpensLogin d (open_of x) → HasOpened x (requests ++ d ∷ [])
-opened_now x requests d h = record { before = requests; request = d; after = []; split = refl; opens = h }
+pub started_now : (x : Authentication) (requests : List (List ℕ)) (d : List ℕ) → StartsLogin d (open_of x) → HasStarted x (requests ++ d ∷ [])
+started_now x requests d h = record { before = requests; request = d; after = []; split = refl; opens = h }
 
 pub proved_later : (x : Authentication) (requests : List (List ℕ)) (d : List ℕ) → HasProved x requests → HasProved x (requests ++ d ∷ [])
 proved_later x requests d h = record {
@@ -35,7 +35,7 @@ proved_later x requests d h = record {
   closes = h.closes;
 }
 
-pub proved_now : (x : Authentication) (requests : List (List ℕ)) (d : List ℕ) → HasOpened x requests → SaysSaslContinue d (close_of x) → HasProved x (requests ++ d ∷ [])
+pub proved_now : (x : Authentication) (requests : List (List ℕ)) (d : List ℕ) → HasStarted x requests → SaysSaslContinue d (close_of x) → HasProved x (requests ++ d ∷ [])
 proved_now x requests d h c = record { before = requests; request = d; after = []; split = refl; opened = h; closes = c }
 
 logged_in_later : (settings : ServeSettings) (name : List ℕ) (requests : List (List ℕ)) (d : List ℕ) → HasLoggedIn settings name requests → HasLoggedIn settings name (requests ++ d ∷ [])
@@ -46,15 +46,15 @@ pub user_later : (settings : ServeSettings) (user : Option (List ℕ)) (requests
 user_later settings None requests d h = tt
 user_later settings (Some name) requests d h = logged_in_later settings name requests d h
 
-pub login_later : (settings : ServeSettings) (login : Option OpenLogin) (requests : List (List ℕ)) (d : List ℕ) → IfSome login (IsOpenLogin settings requests)
-    → IfSome login (IsOpenLogin settings (requests ++ d ∷ []))
+pub login_later : (settings : ServeSettings) (login : Option PendingLogin) (requests : List (List ℕ)) (d : List ℕ) → IfSome login (IsPendingLogin settings requests)
+    → IfSome login (IsPendingLogin settings (requests ++ d ∷ []))
 login_later settings None requests d h = tt
 login_later settings (Some login) requests d h = record {
   x = h.x;
   of_settings = h.of_settings;
   name_is = h.name_is;
   begun = h.begun;
-  opened = opened_later h.x requests d h.opened;
+  opened = started_later h.x requests d h.opened;
   proved = λ is. proved_later h.x requests d (h.proved is);
 }
 
@@ -64,7 +64,7 @@ remembers_later settings requests d session h = record { user = user_later setti
 -- no login goes on
 pub remembers_alone : (settings : ServeSettings) (requests : List (List ℕ)) (d : List ℕ) (session : Session) → session.login ≡ None → IfSome session.user (λ name. HasLoggedIn settings name requests)
     → Remembers settings (requests ++ d ∷ []) session
-remembers_alone settings requests d session none h = record { user = user_later settings session.user requests d h; login = subst (λ o. IfSome o (IsOpenLogin settings (requests ++ d ∷ []))) (sym none) tt }
+remembers_alone settings requests d session none h = record { user = user_later settings session.user requests d h; login = subst (λ o. IfSome o (IsPendingLogin settings (requests ++ d ∷ []))) (sym none) tt }
 
 -- ---- a login that begins
 
@@ -73,14 +73,14 @@ said_is : (P : List ℕ → Type 0) (message : Option (Bor (List ℕ))) (text : 
 said_is P None text is h = let never : None ≡ Some text = is in absurd (cc never)
 said_is P (Some m) text is h = let same : Some m.now ≡ Some text = is in let one : m.now ≡ text = cc in subst P one h
 
-pub opens_with : (settings : ServeSettings) (requests : List (List ℕ)) (d : List ℕ) (start : StartRequest) (opened : OpenedLogin) → OpensBy settings start (Some opened) → IfSome start.payload (λ p. OpensLogin d p.now)
-    → IsOpenLogin settings (requests ++ d ∷ []) opened.login
-opens_with settings requests d start opened (x, asked, begins) said = record {
+pub starts_with_start : (settings : ServeSettings) (requests : List (List ℕ)) (d : List ℕ) (start : StartRequest) (opened : StartedLogin) → StartsBy settings start (Some opened) → IfSome start.payload (λ p. StartsLogin d p.now)
+    → IsPendingLogin settings (requests ++ d ∷ []) opened.login
+starts_with_start settings requests d start opened (x, asked, begins) said = record {
   x = x;
   of_settings = asked.of_settings;
   name_is = begins.begun.name_is;
   begun = begins.begun.begun;
-  opened = opened_now x requests d (said_is (OpensLogin d) start.payload (open_of x) asked.said said);
+  opened = started_now x requests d (said_is (StartsLogin d) start.payload (open_of x) asked.said said);
   proved = λ is. absurd (differ begins.begun.unproved is);
 }
   where
@@ -90,9 +90,9 @@ opens_with settings requests d start opened (x, asked, begins) said = record {
 -- ---- a login that ends
 
 -- the client's last message proves the key, and the user is logged in
-pub logged_in_now : (settings : ServeSettings) (requests : List (List ℕ)) (d : List ℕ) (login : OpenLogin) → (h : IsOpenLogin settings requests login) → SaysSaslContinue d (close_of h.x) → HasLoggedIn settings login.name (requests ++ d ∷ [])
+pub logged_in_now : (settings : ServeSettings) (requests : List (List ℕ)) (d : List ℕ) (login : PendingLogin) → (h : IsPendingLogin settings requests login) → SaysSaslContinue d (close_of h.x) → HasLoggedIn settings login.name (requests ++ d ∷ [])
 logged_in_now settings requests d login h c = record { x = h.x; of_settings = h.of_settings; name_is = h.name_is; proved = proved_now h.x requests d h.opened c }
 
 -- the key was proved before
-pub logged_in_before : (settings : ServeSettings) (requests : List (List ℕ)) (d : List ℕ) (login : OpenLogin) → IsOpenLogin settings requests login → login.is_proved ≡ true → HasLoggedIn settings login.name (requests ++ d ∷ [])
+pub logged_in_before : (settings : ServeSettings) (requests : List (List ℕ)) (d : List ℕ) (login : PendingLogin) → IsPendingLogin settings requests login → login.is_proved ≡ true → HasLoggedIn settings login.name (requests ++ d ∷ [])
 logged_in_before settings requests d login h is = record { x = h.x; of_settings = h.of_settings; name_is = h.name_is; proved = proved_later h.x requests d (h.proved is) }

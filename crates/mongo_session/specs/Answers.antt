@@ -5,7 +5,7 @@ use Rattle.mongo_session.specs.declared.reply.RefusedCommand.TheVariants.{Authen
 use Rattle.mongo_session.specs.declared.reply.Reply.{Reply}
 use Rattle.mongo_session.specs.declared.reply.Reply.TheVariants.{Hello as Described, Sasl, BuildInfo as Version, Done, Refused}
 use Rattle.mongo_session.specs.declared.reply.SaslReply.{SaslReply}
-use Rattle.mongo_session.specs.declared.request.Hello.{Hello as Greeting}
+use Rattle.mongo_session.specs.declared.request.Hello.{Hello as HelloRequest}
 use Rattle.mongo_session.specs.declared.request.Request.{Request}
 use Rattle.mongo_session.specs.declared.request.Request.TheVariants.{Hello, SaslStart, SaslContinue, Ping, BuildInfo, EndSessions, Other}
 use Rattle.mongo_session.specs.declared.request.StartRequest.{StartRequest as Start}
@@ -31,13 +31,13 @@ AnswersCarried settings old None new answer = (answer ≡ None) × (new ≡ old)
 AnswersCarried settings old (Some start) new answer = AnswersStart settings start new answer
 
 -- A hello is answered by the mechanisms of the user that it asks for, and by what the login comes to that it carries.
-pub record AnswersHello (settings : ServeSettings) (old : Session) (hello : Greeting) (new : Session) (reply : HelloAnswer) : Type 0 where
+pub record AnswersHello (settings : ServeSettings) (old : Session) (hello : HelloRequest) (new : Session) (reply : HelloAnswer) : Type 0 where
   pub user : new.user ≡ old.user
   pub legacy : reply.is_legacy ≡ hello.is_legacy
   pub mechanisms : AreMechanismsOf settings.accounts.items hello.mechanisms_of reply.mechanisms
   pub speculation : AnswersCarried settings old hello.speculation new reply.speculation
 
-abbrev pub IsDescription : ServeSettings → Session → Greeting → Session → Reply → Type 0
+abbrev pub IsDescription : ServeSettings → Session → HelloRequest → Session → Reply → Type 0
 IsDescription settings old hello new (Described reply) = AnswersHello settings old hello new reply
 IsDescription settings old hello new reply = ⊥
 

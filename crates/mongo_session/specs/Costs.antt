@@ -7,18 +7,18 @@ use Rattle.mongo_session.specs.declared.request.Request.TheVariants.{Hello, Sasl
 use Rattle.mongo_session.specs.declared.request.StartRequest.{StartRequest}
 use Rattle.mongo_session.specs.declared.serve_settings.Account.{Account}
 use Rattle.mongo_session.specs.declared.serve_settings.ServeSettings.{ServeSettings}
-use Rattle.mongo_session.specs.Opened.{IsFound}
+use Rattle.mongo_session.specs.Started.{IsFound}
 use Rattle.mongo_session.specs.Requests.{SaysRequest}
 
 -- ---- what is derived
 
 -- the account's mechanism takes its password
-abbrev pub TakesPassword : Account → Type 0
-TakesPassword account = (kind : ErrorKind) → PasswordRow account.version account.password kind → ⊥
+abbrev pub HasUsablePassword : Account → Type 0
+HasUsablePassword account = (kind : ErrorKind) → PasswordRow account.version account.password kind → ⊥
 
 -- the rounds of an account's key: its count, and none where its mechanism doesn't take its password
 abbrev pub KeyRounds : Account → ℕ → Type 0
-KeyRounds account rounds = (TakesPassword account × (rounds ≡ account.count)) ⊎ ((TakesPassword account → ⊥) × (rounds ≡ 0))
+KeyRounds account rounds = (HasUsablePassword account × (rounds ≡ account.count)) ⊎ ((HasUsablePassword account → ⊥) × (rounds ≡ 0))
 
 -- A `saslStart` finds the first account of its mechanism whose user its message names, whatever follows as the nonce.
 pub record StartFinds (settings : ServeSettings) (start : StartRequest) (account : Account) : Type 0 where
@@ -57,9 +57,9 @@ AllRounds settings (document ∷ documents) rounds = (here : ℕ) × (more : ℕ
 -- ---- what the counter of steps says of it
 
 -- it rose by just the rounds that are derived
-abbrev pub TakesRounds : (ℕ → Type 0) → ℕ → ℕ → Type 0
-TakesRounds Rounds old new = (rounds : ℕ) × Rounds rounds × (new ≡ old + rounds)
+abbrev pub CostsRounds : (ℕ → Type 0) → ℕ → ℕ → Type 0
+CostsRounds Rounds old new = (rounds : ℕ) × Rounds rounds × (new ≡ old + rounds)
 
 -- it rose by no more than these
-abbrev pub TakesAtMost : (ℕ → Type 0) → ℕ → ℕ → Type 0
-TakesAtMost Rounds old new = (old ≤ new) × ((new ≡ old) ⊎ ((rounds : ℕ) × Rounds rounds × (new ≤ old + rounds)))
+abbrev pub CostsAtMost : (ℕ → Type 0) → ℕ → ℕ → Type 0
+CostsAtMost Rounds old new = (old ≤ new) × ((new ≡ old) ⊎ ((rounds : ℕ) × Rounds rounds × (new ≤ old + rounds)))

@@ -3,22 +3,22 @@ use Rattle.std.specs.Prelude.{◌≡◌, ℕ, true, Option, None, Some, List, []
 use Rattle.mongo_server.specs.Authentication.{Authentication, close_of, server_final_of}
 use Rattle.mongo_server.specs.Server.{HasBegun}
 use Rattle.mongo_session.specs.declared.reply.SaslReply.{SaslReply}
-use Rattle.mongo_session.specs.declared.session.OpenLogin.{OpenLogin}
+use Rattle.mongo_session.specs.declared.session.PendingLogin.{PendingLogin}
 use Rattle.mongo_session.specs.declared.session.Session.{Session}
 use Rattle.mongo_session.specs.Sasl.{session_of_login, after_proof}
 
 -- it is the client's last, and the answer the server's
-pub record TakesLast (old : Session) (login : OpenLogin) (message : List ℕ) (new : Session) (answer : SaslReply) : Type 0 where
+pub record TakesLast (old : Session) (login : PendingLogin) (message : List ℕ) (new : Session) (answer : SaslReply) : Type 0 where
   pub closes : (x : Authentication) → HasBegun login.core x → (message ≡ close_of x) × (answer.payload ≡ server_final_of x)
   pub done_is : answer.is_done ≡ login.skips_empty_exchange
   pub new_is : new ≡ after_proof old login
 
 -- where the login's key isn't proved
-abbrev pub AnswersLast : Session → OpenLogin → List ℕ → Session → Option SaslReply → Type 0
+abbrev pub AnswersLast : Session → PendingLogin → List ℕ → Session → Option SaslReply → Type 0
 AnswersLast old login message new (Some answer) = TakesLast old login message new answer
 AnswersLast old login message new None = ((x : Authentication) → HasBegun login.core x → message ≡ close_of x → ⊥) × (new ≡ old)
 
 -- where it is
-abbrev pub AnswersEmpty : Session → OpenLogin → List ℕ → Session → Option SaslReply → Type 0
+abbrev pub AnswersEmpty : Session → PendingLogin → List ℕ → Session → Option SaslReply → Type 0
 AnswersEmpty old login message new (Some answer) = (message ≡ []) × (answer ≡ record { is_done = true; payload = [] }) × (new ≡ session_of_login login)
 AnswersEmpty old login message new None = (message ≡ [] → ⊥) × (new ≡ old)

@@ -4,9 +4,9 @@ pub mod CommandNames
 pub mod Costs
 pub mod Last
 pub mod Login
-pub mod Opened
 pub mod Replies
 pub mod Requests
 pub mod Sasl
 pub mod ServeSettings
+pub mod Started
 pub mod Values

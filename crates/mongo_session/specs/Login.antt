@@ -6,11 +6,11 @@ use Rattle.mongo_server.specs.Authentication.{Authentication, open_of, close_of}
 use Rattle.mongo_server.specs.Server.{HasBegun}
 use Rattle.mongo_wire.specs.declared.error.ErrorKind.{ErrorKind}
 use Rattle.mongo_session.specs.Accounts.{IsFirstAccount}
-use Rattle.mongo_session.specs.declared.session.OpenLogin.{OpenLogin}
+use Rattle.mongo_session.specs.declared.session.PendingLogin.{PendingLogin}
 use Rattle.mongo_session.specs.declared.session.Session.{Session}
 use Rattle.mongo_session.specs.declared.serve_settings.Account.{Account}
 use Rattle.mongo_session.specs.declared.serve_settings.ServeSettings.{ServeSettings}
-use Rattle.mongo_session.specs.Requests.{OpensLogin, SaysSaslContinue}
+use Rattle.mongo_session.specs.Requests.{StartsLogin, SaysSaslContinue}
 
 -- the authentication of an account (RFC 5802, section 3) with this suffix and the client's nonce
 abbrev pub authentication_of : Account → List ℕ → List ℕ → Authentication
@@ -27,12 +27,12 @@ pub record IsAuthentication (settings : ServeSettings) (x : Authentication) : Ty
 -- ---- the requests, each a document
 
 -- one of them begins the login of the authentication: its message is the client's first
-pub record HasOpened (x : Authentication) (requests : List (List ℕ)) : Type 0 where
+pub record HasStarted (x : Authentication) (requests : List (List ℕ)) : Type 0 where
   pub before : List (List ℕ)
   pub request : List ℕ
   pub after : List (List ℕ)
   pub split : requests ≡ before ++ (request ∷ after)
-  pub opens : OpensLogin request (open_of x)
+  pub opens : StartsLogin request (open_of x)
 
 -- and a later one proves the key: its message is the client's last, byte for byte
 pub record HasProved (x : Authentication) (requests : List (List ℕ)) : Type 0 where
@@ -40,7 +40,7 @@ pub record HasProved (x : Authentication) (requests : List (List ℕ)) : Type 0 
   pub request : List ℕ
   pub after : List (List ℕ)
   pub split : requests ≡ before ++ (request ∷ after)
-  pub opened : HasOpened x before
+  pub opened : HasStarted x before
   pub closes : SaysSaslContinue request (close_of x)
 
 -- the client's messages of an authentication of this user were sent
@@ -57,14 +57,14 @@ abbrev pub fresh : Session
 fresh = record { user = None; login = None }
 
 -- a login that goes on
-pub record IsOpenLogin (settings : ServeSettings) (requests : List (List ℕ)) (login : OpenLogin) : Type 0 where
+pub record IsPendingLogin (settings : ServeSettings) (requests : List (List ℕ)) (login : PendingLogin) : Type 0 where
   pub x : Authentication
   pub of_settings : IsAuthentication settings x
   pub name_is : login.name ≡ x.username
   pub begun : HasBegun login.core x
-  pub opened : HasOpened x requests
+  pub opened : HasStarted x requests
   pub proved : login.is_proved ≡ true → HasProved x requests
 
 pub record Remembers (settings : ServeSettings) (requests : List (List ℕ)) (session : Session) : Type 0 where
   pub user : IfSome session.user (λ name. HasLoggedIn settings name requests)
-  pub login : IfSome session.login (IsOpenLogin settings requests)
+  pub login : IfSome session.login (IsPendingLogin settings requests)

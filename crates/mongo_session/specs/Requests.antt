@@ -12,7 +12,7 @@ use Rattle.mongo_session.specs.CommandNames.{ping_command_name, build_info_comma
 use Rattle.mongo_session.specs.ServeSettings.{version_named}
 use Rattle.mongo_session.specs.Values.{HasInside, HasInt32, HasText, HasTrue, HoldsIfAny}
 use Rattle.mongo_session.specs.declared.request.Request.{Request}
-use Rattle.mongo_session.specs.declared.request.Request.TheVariants.{Hello as Greeting, SaslStart as Starting, SaslContinue as Continuing, Ping, BuildInfo, EndSessions, Other}
+use Rattle.mongo_session.specs.declared.request.Request.TheVariants.{Hello as HelloRequest, SaslStart as Starting, SaslContinue as Continuing, Ping, BuildInfo, EndSessions, Other}
 use Rattle.mongo_session.specs.declared.request.Hello.{Hello}
 use Rattle.mongo_session.specs.declared.request.StartRequest.{StartRequest}
 use Rattle.mongo_session.specs.declared.request.ContinueRequest.{ContinueRequest}
@@ -37,23 +37,23 @@ pub record IsStart (document payload : List ℕ) : Type 0 where
   pub message : HasPayload document payload
 
 -- hello, by its name or by a legacy one
-abbrev pub IsGreetingBy : List ℕ → Bool → Type 0
-IsGreetingBy document false = IsCommandNamed document hello_command_name
-IsGreetingBy document true = IsCommandNamed document legacy_hello_command_name ⊎ IsCommandNamed document is_master_key
+abbrev pub IsHelloBy : List ℕ → Bool → Type 0
+IsHelloBy document false = IsCommandNamed document hello_command_name
+IsHelloBy document true = IsCommandNamed document legacy_hello_command_name ⊎ IsCommandNamed document is_master_key
 
-abbrev pub IsGreeting : List ℕ → Type 0
-IsGreeting document = IsGreetingBy document false ⊎ IsGreetingBy document true
+abbrev pub IsHello : List ℕ → Type 0
+IsHello document = IsHelloBy document false ⊎ IsHelloBy document true
 
 -- a hello that carries a `saslStart` with this message
-pub record IsGreetingStart (document payload : List ℕ) : Type 0 where
-  pub greeting : IsGreeting document
+pub record IsSpeculativeStart (document payload : List ℕ) : Type 0 where
+  pub is_hello : IsHello document
   pub inner : List ℕ
   pub inside : HasInside document speculative_authenticate_key inner
   pub start : IsStart inner payload
 
 -- a login begins with this message
-abbrev pub OpensLogin : List ℕ → List ℕ → Type 0
-OpensLogin document payload = IsStart document payload ⊎ IsGreetingStart document payload
+abbrev pub StartsLogin : List ℕ → List ℕ → Type 0
+StartsLogin document payload = IsStart document payload ⊎ IsSpeculativeStart document payload
 
 -- a `saslContinue` with this message
 pub record SaysSaslContinue (document payload : List ℕ) : Type 0 where
@@ -98,7 +98,7 @@ abbrev pub AsksMechanismsOf : List ℕ → List ℕ → Type 0
 AsksMechanismsOf document user = (text : List ℕ) × HasText document sasl_supported_mechs_key text × (user ≡ name_without_database text)
 
 pub record SaysHello (document : List ℕ) (hello : Hello) : Type 0 where
-  pub name : IsGreetingBy document hello.is_legacy
+  pub name : IsHelloBy document hello.is_legacy
   pub mechanisms : HoldsIfAny (AsksMechanismsOf document) hello.mechanisms_of
   pub speculation : CarriesLogin document hello.speculation
 
@@ -130,7 +130,7 @@ pub record SaysOther (document name : List ℕ) : Type 0 where
 
 -- the document asks for this
 abbrev pub SaysRequest : List ℕ → Request → Type 0
-SaysRequest document (Greeting hello) = SaysHello document hello
+SaysRequest document (HelloRequest hello) = SaysHello document hello
 SaysRequest document (Starting start) = SaysStart document start
 SaysRequest document (Continuing next) = SaysContinue document next
 SaysRequest document Ping = IsCommandNamed document ping_command_name

@@ -6,7 +6,7 @@ use Rattle.mongo_server.specs.Server.{HasBegun}
 use Rattle.mongo_session.specs.declared.reply.SaslReply.{SaslReply}
 use Rattle.mongo_session.specs.declared.request.ContinueRequest.{ContinueRequest}
 use Rattle.mongo_session.specs.declared.request.StartRequest.{StartRequest}
-use Rattle.mongo_session.specs.declared.session.OpenLogin.{OpenLogin}
+use Rattle.mongo_session.specs.declared.session.PendingLogin.{PendingLogin}
 use Rattle.mongo_session.specs.declared.session.Session.{Session}
 use Rattle.mongo_session.specs.declared.serve_settings.ServeSettings.{ServeSettings}
 use Rattle.mongo_session.specs.Login.{IsAuthentication}
@@ -20,7 +20,7 @@ pub record AsksFor (settings : ServeSettings) (start : StartRequest) (x : Authen
   pub said : option_copied start.payload ≡ Some (open_of x)
 
 -- a login of the authentication has begun, and its key isn't proved yet
-pub record IsBegun (x : Authentication) (skips : Bool) (login : OpenLogin) : Type 0 where
+pub record IsBegun (x : Authentication) (skips : Bool) (login : PendingLogin) : Type 0 where
   pub begun : HasBegun login.core x
   pub name_is : login.name ≡ x.username
   pub skips_is : login.skips_empty_exchange ≡ skips
@@ -41,33 +41,33 @@ AnswersStart settings start new None = ((x : Authentication) → AsksFor setting
 -- ---- a login goes on
 
 -- a `saslContinue` with this message, of the conversation that the session's login is
-pub record GoesOn (old : Session) (next : ContinueRequest) (login : OpenLogin) (message : List ℕ) : Type 0 where
+pub record GoesOn (old : Session) (next : ContinueRequest) (login : PendingLogin) (message : List ℕ) : Type 0 where
   pub of_conversation : next.is_of_conversation ≡ true
   pub held : old.login ≡ Some login
   pub said : option_copied next.payload ≡ Some message
 
 -- the message is the client's last of the authentication, which the login has begun
-pub record Closes (old : Session) (next : ContinueRequest) (x : Authentication) (login : OpenLogin) : Type 0 where
+pub record Closes (old : Session) (next : ContinueRequest) (x : Authentication) (login : PendingLogin) : Type 0 where
   pub goes_on : GoesOn old next login (close_of x)
   pub begun : HasBegun login.core x
   pub unproved : login.is_proved ≡ false
 
 -- the message is empty, and the login's key is proved
-pub record EndsEmpty (old : Session) (next : ContinueRequest) (login : OpenLogin) : Type 0 where
+pub record EndsEmpty (old : Session) (next : ContinueRequest) (login : PendingLogin) : Type 0 where
   pub goes_on : GoesOn old next login []
   pub proved : login.is_proved ≡ true
 
 -- the login's user is logged in, and no login goes on
-abbrev pub session_of_login : OpenLogin → Session
+abbrev pub session_of_login : PendingLogin → Session
 session_of_login login = record { user = Some login.name; login = None }
 
 -- the session once the key is proved
-abbrev pub after_proof : Session → OpenLogin → Session
+abbrev pub after_proof : Session → PendingLogin → Session
 after_proof old login = if login.skips_empty_exchange then session_of_login login else record old { login = Some (record login { is_proved = true }) }
 
 -- The key is proved: of every authentication that the login has begun this is the client's last message, and the answer the server's last.
 pub record ProvesKey (old : Session) (next : ContinueRequest) (new : Session) (answer : SaslReply) : Type 0 where
-  pub login : OpenLogin
+  pub login : PendingLogin
   pub message : List ℕ
   pub goes_on : GoesOn old next login message
   pub unproved : login.is_proved ≡ false
@@ -76,13 +76,13 @@ pub record ProvesKey (old : Session) (next : ContinueRequest) (new : Session) (a
   pub new_is : new ≡ after_proof old login
 
 -- the login has ended, which an empty message answers
-pub record ClosesLogin (old : Session) (next : ContinueRequest) (new : Session) (answer : SaslReply) : Type 0 where
-  pub login : OpenLogin
+pub record CompletesLogin (old : Session) (next : ContinueRequest) (new : Session) (answer : SaslReply) : Type 0 where
+  pub login : PendingLogin
   pub ends : EndsEmpty old next login
   pub answer_is : answer ≡ record { is_done = true; payload = [] }
   pub new_is : new ≡ session_of_login login
 
 -- What a `saslContinue` comes to. It is refused exactly where it neither closes an authentication nor ends a login; then no login goes on.
 abbrev pub AnswersContinue : Session → ContinueRequest → Session → Option SaslReply → Type 0
-AnswersContinue old next new (Some answer) = ProvesKey old next new answer ⊎ ClosesLogin old next new answer
-AnswersContinue old next new None = ((x : Authentication) (login : OpenLogin) → Closes old next x login → ⊥) × ((login : OpenLogin) → EndsEmpty old next login → ⊥) × (new ≡ record old { login = None })
+AnswersContinue old next new (Some answer) = ProvesKey old next new answer ⊎ CompletesLogin old next new answer
+AnswersContinue old next new None = ((x : Authentication) (login : PendingLogin) → Closes old next x login → ⊥) × ((login : PendingLogin) → EndsEmpty old next login → ⊥) × (new ≡ record old { login = None })

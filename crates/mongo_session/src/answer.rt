@@ -3,9 +3,9 @@
 ghost use Rattle.std.specs.Prelude.{◌≡◌, ◌↔◌, ℕ, List, [], ◌∷◌, ◌++◌, IsTrue, IfOk, IfErr, OnOk, OnErr};
 ghost use Rattle.mongo_session.specs.Accounts.{AreMechanismsOf, ListsAccounts, HasAccount, IsOf};
 ghost use Rattle.mongo_session.specs.Answers.{guarded_by, AnswersCarried, AnswersHello, IsAnswer, login_reply};
-ghost use Rattle.mongo_session.specs.Costs.{CarriedRounds, RequestRounds, TakesAtMost, TakesRounds};
+ghost use Rattle.mongo_session.specs.Costs.{CarriedRounds, RequestRounds, CostsAtMost, CostsRounds};
 ghost use Rattle.mongo_session.specs.Login.{Remembers};
-ghost use Rattle.mongo_session.specs.Requests.{CarriesLogin, IsGreeting, SaysRequest, SaysHello};
+ghost use Rattle.mongo_session.specs.Requests.{CarriesLogin, IsHello, SaysRequest, SaysHello};
 ghost use Rattle.mongo_bson.specs.declared.fault.BsonFault.TheVariants.{OutOfMemory};
 
 use crate::reply::{HelloAnswer, Mechanisms, RefusedCommand, Reply, SaslReply};
@@ -33,11 +33,11 @@ pub fn answer_request<G: Ledger>(
     ensures kept { OnErr result (session.new.user ≡ session.old.user) }
     ensures refused { IfErr result (λ fault. fault ≡ OutOfMemory) }
     // What is derived for it; where memory ran out, at most that.
-    ensures cost { OnOk result (TakesRounds (RequestRounds settings.now request.entry) steps.old steps.new) }
-    ensures at_most { OnErr result (TakesAtMost (RequestRounds settings.now request.entry) steps.old steps.new) }
+    ensures cost { OnOk result (CostsRounds (RequestRounds settings.now request.entry) steps.old steps.new) }
+    ensures at_most { OnErr result (CostsAtMost (RequestRounds settings.now request.entry) steps.old steps.new) }
 {
     match request {
-        Request::Hello(hello) => Ok(Reply::Hello(greet(alloc, settings, session, hello, steps)?)),
+        Request::Hello(hello) => Ok(Reply::Hello(answer_hello(alloc, settings, session, hello, steps)?)),
         Request::SaslStart(start) => Ok(login_reply(session.start(alloc, settings, start, steps)?)),
         Request::SaslContinue(next) => Ok(login_reply(session.go_on(alloc, next)?)),
         Request::Ping => Ok(guarded(session, Reply::Done)),
@@ -54,7 +54,7 @@ pub fn answer_request<G: Ledger>(
 }
 
 /// Answers a hello, and begins the login that it carries.
-pub fn greet<G: Ledger>(
+pub fn answer_hello<G: Ledger>(
     alloc: Global,
     settings: &ServeSettings,
     session: &mut Session,
@@ -65,8 +65,8 @@ pub fn greet<G: Ledger>(
     ensures answered { IfOk result (AnswersHello settings.now session.old hello.entry session.new) }
     ensures user { session.new.user ≡ session.old.user }
     ensures refused { IfErr result (λ fault. fault ≡ OutOfMemory) }
-    ensures cost { OnOk result (TakesRounds (CarriedRounds settings.now hello.entry.speculation) steps.old steps.new) }
-    ensures at_most { OnErr result (TakesAtMost (CarriedRounds settings.now hello.entry.speculation) steps.old steps.new) }
+    ensures cost { OnOk result (CostsRounds (CarriedRounds settings.now hello.entry.speculation) steps.old steps.new) }
+    ensures at_most { OnErr result (CostsAtMost (CarriedRounds settings.now hello.entry.speculation) steps.old steps.new) }
 {
     let speculation = begin(alloc, settings, session, hello.speculation, steps)?;
     Ok(HelloAnswer {
@@ -84,13 +84,13 @@ fn begin<G: Ledger>(
     speculation: Option<StartRequest<'_>>,
     steps: &mut Steps<G>,
 ) -> Result<Option<SaslReply>, BsonFault>
-    ensures remembers { (requests : List (List ℕ)) (document : List ℕ) → Remembers settings.now requests session.old → IsGreeting document → CarriesLogin document speculation.entry →
+    ensures remembers { (requests : List (List ℕ)) (document : List ℕ) → Remembers settings.now requests session.old → IsHello document → CarriesLogin document speculation.entry →
         Remembers settings.now (requests ++ document ∷ []) session.new }
     ensures answered { IfOk result (AnswersCarried settings.now session.old speculation.entry session.new) }
     ensures user { session.new.user ≡ session.old.user }
     ensures refused { IfErr result (λ fault. fault ≡ OutOfMemory) }
-    ensures cost { OnOk result (TakesRounds (CarriedRounds settings.now speculation.entry) steps.old steps.new) }
-    ensures at_most { OnErr result (TakesAtMost (CarriedRounds settings.now speculation.entry) steps.old steps.new) }
+    ensures cost { OnOk result (CostsRounds (CarriedRounds settings.now speculation.entry) steps.old steps.new) }
+    ensures at_most { OnErr result (CostsAtMost (CarriedRounds settings.now speculation.entry) steps.old steps.new) }
 {
     match speculation {
         Some(start) => session.start(alloc, settings, start, steps),

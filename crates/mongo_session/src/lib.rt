@@ -13,7 +13,7 @@
 //! 1. [`serve_settings_of`] reads who may log in, of one JSON object: [`ServeSettings`], an [`Account`] for each mechanism of a user.
 //! 2. [`request_of`] reads what a document asks for, a [`Request`], by the document's first key. It takes no memory.
 //! 3. [`answer_request`] answers it in a [`Session`], which keeps who is logged in and the login that goes on. A hello may carry a
-//!    login's first message ([`greet`]), and a login may ask to end without the empty exchange.
+//!    login's first message ([`answer_hello`]), and a login may ask to end without the empty exchange.
 //! 4. [`document_of_reply`] is the document that says the [`Reply`].
 //!
 //! Want of memory is the one refusal of a step, `BsonFault::OutOfMemory`; a reply's document may be too long as well.
@@ -29,18 +29,18 @@
 mod answer;
 mod command_names;
 mod hello_document;
-mod open;
+mod start;
 mod reply;
 mod reply_document;
 mod request;
 mod serve_settings;
 mod session;
 
-pub use answer::{answer_request, greet};
+pub use answer::{answer_request, answer_hello};
 pub use reply::{HelloAnswer, Mechanisms, RefusedCommand, Reply, SaslReply};
 pub use reply_document::document_of_reply;
 pub use request::{
     ContinueRequest, Hello, Request, StartRequest, command_name, inner_document, request_of,
 };
 pub use serve_settings::{Account, ServeSettings, ServeSettingsError, serve_settings_of};
-pub use session::{OpenLogin, Session};
+pub use session::{PendingLogin, Session};

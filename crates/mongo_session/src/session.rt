@@ -1,6 +1,6 @@
 //! A client's session: who is logged in, and the login that goes on.
 
-use crate::open::open_login;
+use crate::start::start_login;
 use crate::reply::SaslReply;
 use crate::request::{ContinueRequest, StartRequest};
 use crate::serve_settings::ServeSettings;
@@ -12,7 +12,7 @@ use std::sync::ledger::Ledger;
 
 /// A login that goes on: the server has answered the client's first message.
 #[derive(Drop)]
-pub struct OpenLogin {
+pub struct PendingLogin {
     /// The server of the user that logs in; its conversation has begun.
     pub core: ServerCore,
     /// The user's name.
@@ -29,15 +29,15 @@ pub struct Session {
     /// The user that is logged in.
     pub user: Option<Text>,
     /// The login that goes on.
-    pub login: Option<OpenLogin>,
+    pub login: Option<PendingLogin>,
 }
 
 impl Session {
     ghost use Rattle.std.specs.Prelude.{◌≡◌, ℕ, true, List, [], ◌∷◌, ◌++◌, None, IfSome, IfOk, IfErr, OnOk, OnErr};
-    ghost use Rattle.mongo_session.specs.Costs.{StartRounds, TakesAtMost, TakesRounds};
+    ghost use Rattle.mongo_session.specs.Costs.{StartRounds, CostsAtMost, CostsRounds};
     ghost use Rattle.mongo_session.specs.Last.{AnswersLast, AnswersEmpty};
-    ghost use Rattle.mongo_session.specs.Login.{HasLoggedIn, IsOpenLogin, Remembers};
-    ghost use Rattle.mongo_session.specs.Requests.{OpensLogin, SaysSaslContinue};
+    ghost use Rattle.mongo_session.specs.Login.{HasLoggedIn, IsPendingLogin, Remembers};
+    ghost use Rattle.mongo_session.specs.Requests.{StartsLogin, SaysSaslContinue};
     ghost use Rattle.mongo_session.specs.Sasl.{AnswersStart, AnswersContinue};
     ghost use Rattle.mongo_session.specs.declared.serve_settings.ServeSettings.{ServeSettings as SettingsValue};
     ghost use Rattle.mongo_bson.specs.declared.fault.BsonFault.TheVariants.{OutOfMemory};
@@ -63,16 +63,16 @@ impl Session {
         steps: &mut Steps<G>,
     ) -> Result<Option<SaslReply>, BsonFault>
         // Of all that the client sent, the session knows a login that this request begins, and who is logged in already.
-        ensures remembers { (requests : List (List ℕ)) (document : List ℕ) → Remembers settings.now requests self.old → IfSome start.entry.payload (λ payload. OpensLogin document payload.now) →
+        ensures remembers { (requests : List (List ℕ)) (document : List ℕ) → Remembers settings.now requests self.old → IfSome start.entry.payload (λ payload. StartsLogin document payload.now) →
             Remembers settings.now (requests ++ document ∷ []) self.new }
         ensures answered { IfOk result (AnswersStart settings.now start.entry self.new) }
         ensures user { self.new.user ≡ self.old.user }
         ensures refused { IfErr result (λ fault. fault ≡ OutOfMemory) }
-        ensures cost { OnOk result (TakesRounds (StartRounds settings.now start.entry) steps.old steps.new) }
-        ensures at_most { OnErr result (TakesAtMost (StartRounds settings.now start.entry) steps.old steps.new) }
+        ensures cost { OnOk result (CostsRounds (StartRounds settings.now start.entry) steps.old steps.new) }
+        ensures at_most { OnErr result (CostsAtMost (StartRounds settings.now start.entry) steps.old steps.new) }
     {
         self.login = None;
-        match open_login(alloc, settings, start, steps)? {
+        match start_login(alloc, settings, start, steps)? {
             Some(opened) => {
                 self.login = Some(opened.login);
                 Ok(Some(SaslReply {
@@ -114,17 +114,17 @@ impl Session {
     fn prove(
         &mut self,
         alloc: Global,
-        login: OpenLogin,
+        login: PendingLogin,
         payload: &[u8],
     ) -> Result<Option<SaslReply>, BsonFault>
         requires { self.old.login ≡ None }
-        ensures remembers { (settings : SettingsValue) (requests : List (List ℕ)) (document : List ℕ) → IfSome self.old.user (λ name. HasLoggedIn settings name requests) → IsOpenLogin settings requests login → SaysSaslContinue document payload.now →
+        ensures remembers { (settings : SettingsValue) (requests : List (List ℕ)) (document : List ℕ) → IfSome self.old.user (λ name. HasLoggedIn settings name requests) → IsPendingLogin settings requests login → SaysSaslContinue document payload.now →
             Remembers settings (requests ++ document ∷ []) self.new }
         ensures answered { IfOk result (AnswersLast self.old login payload.now self.new) }
         ensures kept { OnErr result (self.new.user ≡ self.old.user) }
         ensures refused { IfErr result (λ fault. fault ≡ OutOfMemory) }
     {
-        let OpenLogin {
+        let PendingLogin {
             mut core,
             name,
             skips_empty_exchange,
@@ -139,7 +139,7 @@ impl Session {
                         payload: answer,
                     }));
                 }
-                self.login = Some(OpenLogin {
+                self.login = Some(PendingLogin {
                     core,
                     name,
                     skips_empty_exchange,
@@ -161,12 +161,12 @@ impl Session {
     fn end(
         &mut self,
         alloc: Global,
-        login: OpenLogin,
+        login: PendingLogin,
         payload: &[u8],
     ) -> Result<Option<SaslReply>, BsonFault>
         requires none { self.old.login ≡ None }
         requires proved { login.is_proved ≡ true }
-        ensures remembers { (settings : SettingsValue) (requests : List (List ℕ)) (document : List ℕ) → IfSome self.old.user (λ name. HasLoggedIn settings name requests) → IsOpenLogin settings requests login →
+        ensures remembers { (settings : SettingsValue) (requests : List (List ℕ)) (document : List ℕ) → IfSome self.old.user (λ name. HasLoggedIn settings name requests) → IsPendingLogin settings requests login →
             Remembers settings (requests ++ document ∷ []) self.new }
         ensures answered { IfOk result (AnswersEmpty self.old login payload.now self.new) }
         ensures kept { OnErr result (self.new.user ≡ self.old.user) }

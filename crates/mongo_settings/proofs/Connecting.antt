@@ -8,14 +8,14 @@ use Rattle.mongo_establish.specs.declared.establisher.PooledConnection.{PooledCo
 use Rattle.mongo_establish.specs.Setup.{Setup, setup_for}
 use Rattle.mongo_establish.specs.Ending.{EndsEstablishment}
 use Rattle.mongo_establish.specs.Options.{options_of_establisher}
-use Rattle.mongo_settings.specs.declared.rehearsal.login.Login.{Login}
+use Rattle.mongo_settings.specs.declared.rehearsal.login.PreparedLogin.{PreparedLogin}
 use Rattle.mongo_settings.specs.Login.{setup_by}
 
 -- what it asks for with this credential
-abbrev pub setup_with : Login → Option Credential → Setup
+abbrev pub setup_with : PreparedLogin → Option Credential → Setup
 setup_with login credential = setup_for login.pending (options_of_establisher login.establisher) credential login.inputs.nonces login.ids
 
-pub connect_ended : (login : Login) (credential : Option Credential) (old new : State) (after : ℤ) (first last : Ledgers) (r : Result PooledConnection EstablishError) → credential ≡ login.credential
+pub connect_ended : (login : PreparedLogin) (credential : Option Credential) (old new : State) (after : ℤ) (first last : Ledgers) (r : Result PooledConnection EstablishError) → credential ≡ login.credential
     → EndsEstablishment (setup_with login credential) old new after first last r → EndsEstablishment (setup_by login) old new after first last r
 unfolding setup_by
 connect_ended login credential old new after first last r same ends = subst (λ x. EndsEstablishment (setup_with login x) old new after first last r) same ends

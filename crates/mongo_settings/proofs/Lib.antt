@@ -19,4 +19,4 @@ mod Shrinking
 mod LoginsRead
 pub mod Endings
 pub mod Outcomes
-pub mod Taking
+pub mod RehearsalCosts

@@ -8,7 +8,7 @@ use Rattle.mongo_settings.specs.declared.rehearsal.RehearsalStatus.TheVariants.{
 use Rattle.mongo_settings.specs.Outcome.{status_of}
 use Rattle.mongo_settings.specs.Rehearsal.{IsReport}
 use Rattle.mongo_settings.specs.Batch.{BatchLogin, keys_with, AreLogins, both, status_of_all}
-use Rattle.mongo_settings.specs.Task.{Asks, one, many, StepsTaken, Reports, LoginComesOut, AllComeOut, ComesOut}
+use Rattle.mongo_settings.specs.Task.{Asks, one, many, StepCounts, Reports, LoginComesOut, AllComeOut, ComesOut}
 use Rattle.mongo_settings.proofs.OneReport.{accepted_status, refused_status}
 
 pub one_status : (settings : Settings) (text : List ℕ) (report : IsReport settings text) (status : RehearsalStatus) → LoginComesOut settings status → status_of report.outcome ≡ status
@@ -25,6 +25,6 @@ all_status keys (login ∷ others) status are out =
     ap (λ s. both s (status_of_all others)) first ∙ ap (both out.0) rest ∙ sym out.4
 
 -- a report says how its logins come out
-pub reports_status : (asks : Asks) (steps : StepsTaken) (status other : RehearsalStatus) (text : List ℕ) → Reports asks steps status text → ComesOut asks other → status ≡ other
+pub reports_status : (asks : Asks) (steps : StepCounts) (status other : RehearsalStatus) (text : List ℕ) → Reports asks steps status text → ComesOut asks other → status ≡ other
 reports_status (one settings) steps status other text r out = r.status_is ∙ one_status settings text r.report other out
 reports_status (many settings) steps status other text r out = r.status_is ∙ all_status [] r.batch.logins other r.batch.are_logins (subst (λ l. AllComeOut l other) (sym r.batch.settings_are) out)

@@ -21,10 +21,10 @@ use Rattle.mongo_settings.specs.declared.settings.Settings.{Settings}
 use Rattle.mongo_settings.specs.declared.rehearsal.Rehearsal.{Rehearsal}
 use Rattle.mongo_settings.specs.Report.{CountsItself, sent_lines, read_count_line, accepted_lines, refused_lines}
 use Rattle.mongo_settings.specs.Outcome.{setup_of, accepted, refused}
-use Rattle.mongo_settings.specs.Telling.{IsTold, TellsMade, IsReported, TellsRefused, Tells}
+use Rattle.mongo_settings.specs.Reporting.{IsReportOver, ReportsMade, IsReported, ReportsRefused, ReportsOutcome}
 use Rattle.mongo_settings.specs.Rehearsal.{LeftAs}
 use Rattle.mongo_settings.specs.Rounds.{is_after_login}
-use Rattle.mongo_settings.specs.Takes.{Rehearses}
+use Rattle.mongo_settings.specs.Costs.{Rehearses}
 
 -- ---- the link
 
@@ -58,7 +58,7 @@ appended front output sent old new before is grown =
     append_cancel_left front output sent joined
 
 -- of whole frames, which leave nothing over, all is told
-told_whole : (output : List ℕ) (taken : ℕ) (lines text : List ℕ) (frames : List (List ℕ)) → IsTold output taken lines text → AllByRecursion CountsItself frames → output ≡ concat frames → text ≡ sent_lines frames ++ (read_count_line taken ++ lines)
+told_whole : (output : List ℕ) (taken : ℕ) (lines text : List ℕ) (frames : List (List ℕ)) → IsReportOver output taken lines text → AllByRecursion CountsItself frames → output ≡ concat frames → text ≡ sent_lines frames ++ (read_count_line taken ++ lines)
 told_whole output taken lines text frames tells each joined =
     let front = tells.traffic.told frames [] each refl (joined ∙ sym (append-nil (concat frames))) in
     tells.text_is ∙ ap (λ l. l ++ lines) front ∙ append_assoc (sent_lines frames) (read_count_line taken) lines
@@ -83,7 +83,7 @@ described setup old new after first last (Ok pooled) made = rw made.connection.d
 described setup old new after first last (Err refusal) made = tt
 
 made : (settings : Settings) (old new : State) (after : ℤ) (first last : Ledgers) (pooled : PooledConnection) (output left : List ℕ) (taken : ℕ) (x : Rehearsal)
-    → Established (setup_of settings) old new after first last pooled → Replayed settings.replies output left old new → taken ≡ length settings.replies - length left → TellsMade output taken pooled x → Replays settings (Ok pooled) old new x
+    → Established (setup_of settings) old new after first last pooled → Replayed settings.replies output left old new → taken ≡ length settings.replies - length left → ReportsMade output taken pooled x → Replays settings (Ok pooled) old new x
 made settings old new after first last pooled output left taken x e p taken_is tells =
     let s = e.scripted in
     let sent : output ≡ s.sent = appended p.front output s.sent old.written new.written p.before p.written_is s.written in
@@ -121,7 +121,7 @@ made settings old new after first last pooled output left taken x e p taken_is t
 
 told_refusal : (settings : Settings) (kind : ErrorKind) (phase : HandshakePhase) (old new : State) (after : ℤ) (output left : List ℕ) (taken : ℕ) (refusal : EstablishError) (x : Rehearsal)
     → refusal.cause.kind ≡ kind → refusal.handshake_phase ≡ phase → RefusedBy phase (setup_of settings) settings.replies kind old new after
-    → Replayed settings.replies output left old new → taken ≡ length settings.replies - length left → TellsRefused output taken refusal x → Replays settings (Err refusal) old new x
+    → Replayed settings.replies output left old new → taken ≡ length settings.replies - length left → ReportsRefused output taken refusal x → Replays settings (Err refusal) old new x
 told_refusal settings kind phase old new after output left taken refusal x kind_is phase_is r p taken_is tells =
     let l = r.left_by in
     let first = r.refusal in
@@ -155,7 +155,7 @@ told_refusal settings kind phase old new after output left taken refusal x kind_
     }
 
 unmade : (settings : Settings) (old new : State) (after : ℤ) (first last : Ledgers) (refusal : EstablishError) (output left : List ℕ) (taken : ℕ) (x : Rehearsal)
-    → StoppedIn refusal.handshake_phase (setup_of settings) refusal.cause.kind old new after first last → Replayed settings.replies output left old new → taken ≡ length settings.replies - length left → TellsRefused output taken refusal x → Replays settings (Err refusal) old new x
+    → StoppedIn refusal.handshake_phase (setup_of settings) refusal.cause.kind old new after first last → Replayed settings.replies output left old new → taken ≡ length settings.replies - length left → ReportsRefused output taken refusal x → Replays settings (Err refusal) old new x
 unmade settings old new after first last refusal output left taken x s p taken_is tells =
     elim (stopped_refusal refusal.handshake_phase (setup_of settings) refusal.cause.kind old new after first last settings.replies s p.given p.unfailed) [
       | inl memory ↦ absurd (subst IsReported memory tells.reported)
@@ -167,7 +167,7 @@ unmade settings old new after first last refusal output left taken x s p taken_i
 -- however an establishment ended, what is told of it is the report
 pub rehearsed : {E : Type 0} (settings : Settings) (setup : Setup) (old new : State) (after : ℤ) (first last : Ledgers) (output left : List ℕ) (taken : ℕ) (ended : Result PooledConnection EstablishError) (r : Result Rehearsal E)
     → setup ≡ setup_of settings → IfOk ended (Established setup old new after first last) → IfErr ended (λ e. StoppedIn e.handshake_phase setup e.cause.kind old new after first last)
-    → Replayed settings.replies output left old new → taken ≡ length settings.replies - length left → IfOk r (Tells output taken ended) → IfOk r (Replays settings ended old new)
+    → Replayed settings.replies output left old new → taken ≡ length settings.replies - length left → IfOk r (ReportsOutcome output taken ended) → IfOk r (Replays settings ended old new)
 rehearsed settings setup old new after first last output left taken (Ok pooled) (Ok x) same m s p taken_is tells = made settings old new after first last pooled output left taken x (subst (λ a. Established a old new after first last pooled) same m) p taken_is tells
 rehearsed settings setup old new after first last output left taken (Err refusal) (Ok x) same m s p taken_is tells = unmade settings old new after first last refusal output left taken x (subst (λ a. StoppedIn refusal.handshake_phase a refusal.cause.kind old new after first last) same s) p taken_is tells
 rehearsed settings setup old new after first last output left taken ended (Err error) same m s p taken_is tells = tt

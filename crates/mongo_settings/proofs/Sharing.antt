@@ -8,7 +8,7 @@ use Rattle.mongo_scram.specs.declared.cache.SaltedCache.{SaltedCache}
 use Rattle.mongo_scram.specs.declared.cache.SaltedKey.{SaltedKey}
 use Rattle.mongo_scram.specs.Cache.{entries_of, rounds_of, Adds}
 use Rattle.mongo_scram.specs.Entry.{salted_of}
-use Rattle.mongo_establish.specs.KeyCosts.{TakesKey}
+use Rattle.mongo_establish.specs.KeyCosts.{StoresKey}
 use Rattle.mongo_scram.specs.Costs.{HasEntry, Ledgers, Counts, SameEntries, Derives}
 use Rattle.mongo_settings.specs.declared.settings.Settings.{Settings}
 use Rattle.mongo_settings.specs.declared.rehearsal.Rehearsal.{Rehearsal}
@@ -16,7 +16,7 @@ use Rattle.mongo_settings.specs.declared.rehearsal.RehearsalStatus.{RehearsalSta
 use Rattle.mongo_settings.specs.declared.rehearsal.RehearsalStatus.TheVariants.{Accepted, Refused}
 use Rattle.mongo_settings.specs.Rounds.{DerivedKey, logs_in, keys_after}
 use Rattle.mongo_settings.specs.Batch.{BatchLogin, IsBatchLogin, keys_with, AreLogins, both, status_of_all, rounds_of_all, capped_rounds, rounds_line}
-use Rattle.mongo_settings.specs.Takes.{TakesBy, JoinsReport}
+use Rattle.mongo_settings.specs.Costs.{CostsBy, JoinsReport}
 use Rattle.mongo_settings.specs.Task.{ReportsMany, steps_of}
 
 -- ---- one login more
@@ -65,7 +65,7 @@ same_holds first last keys same held key = (
   λ h. let e = (held key).1 h in (e.0, subst (λ es. Contains es (key, e.0)) (sym same) e.1),
 )
 
-added : (first last : Ledgers) (keys : List SaltedKey) (key : SaltedKey) → TakesKey key first last → HoldsJustKeys first.cache keys → HoldsJustKeys last.cache (keys ++ key ∷ [])
+added : (first last : Ledgers) (keys : List SaltedKey) (key : SaltedKey) → StoresKey key first last → HoldsJustKeys first.cache keys → HoldsJustKeys last.cache (keys ++ key ∷ [])
 added first last keys key t held other = (has t.others, back) where
   had : HasEntry first.cache other → Contains (keys ++ key ∷ []) other
   had h = Contains-append_left keys (key ∷ []) other ((held other).0 h)
@@ -87,7 +87,7 @@ added first last keys key t held other = (has t.others, back) where
     | inr same ↦ subst (HasEntry last.cache) same t.entry
   ]
 
-holds_after : (accepted : Bool) (key : Option SaltedKey) (first last : Ledgers) (keys : List SaltedKey) → TakesBy accepted key first last → HoldsJustKeys first.cache keys → HoldsJustKeys last.cache (keys_after accepted key keys)
+holds_after : (accepted : Bool) (key : Option SaltedKey) (first last : Ledgers) (keys : List SaltedKey) → CostsBy accepted key first last → HoldsJustKeys first.cache keys → HoldsJustKeys last.cache (keys_after accepted key keys)
 holds_after true (Some key) first last keys t held = added first last keys key t held
 holds_after true None first last keys t held = same_holds first last keys t.entries held
 holds_after false (Some key) first last keys t held = same_holds first last keys t.entries held
@@ -103,7 +103,7 @@ taken_key : (keys : List SaltedKey) (key : SaltedKey) (first last : Ledgers) →
 taken_key keys key first last (inl had) held = record { rounds = 0; derived = inl ((held key).0 had.0, refl); counts = had.1 }
 taken_key keys key first last (inr none) held = record { rounds = key.count; derived = inr (λ c. none.0 ((held key).1 c), refl); counts = none.1 }
 
-taken_with_held : (accepted : Bool) (keys : List SaltedKey) (key : Option SaltedKey) (first last : Ledgers) → TakesBy accepted key first last → HoldsJustKeys first.cache keys → Taken keys key first last
+taken_with_held : (accepted : Bool) (keys : List SaltedKey) (key : Option SaltedKey) (first last : Ledgers) → CostsBy accepted key first last → HoldsJustKeys first.cache keys → Taken keys key first last
 taken_with_held true keys None first last t held = record { rounds = 0; derived = refl; counts = t.counts }
 taken_with_held false keys None first last t held = record { rounds = 0; derived = refl; counts = t.counts }
 taken_with_held true keys (Some key) first last t held = taken_key keys key first last t.derived held
@@ -151,12 +151,12 @@ shared_none start batch now status report steps entries rounds = record {
 
 pub shared_more : (start : ℕ) (front : List Settings) (settings : Settings) (old new : Rehearsal) (now later : Ledgers) → Shared start front old now → JoinsReport settings now later old new → Shared start (front ++ settings ∷ []) new later
 shared_more start front settings old new now later s j =
-    let t = j.taking.takes in
-    let report = j.taking.rehearsal_is.report in
+    let t = j.costs_so.takes in
+    let report = j.costs_so.rehearsal_is.report in
     let keys = all_keys [] s.logins in
     let taken = taken_with_held (logs_in report.outcome) keys t.key now later t.taken s.held in
-    let login : BatchLogin = record { settings = settings; text = j.rehearsal.report.items; status = j.rehearsal.status; key = t.key; accepted = logs_in report.outcome; rounds = taken.rounds } in
-    let is : IsBatchLogin keys login = record { report = report; status_is = j.taking.rehearsal_is.status_is; accepted_is = refl; key_is = t.key_is; derived = taken.derived } in
+    let login : BatchLogin = record { settings = settings; text = j.rehearsal.report.items; status = j.rehearsal.status; key = t.key; logged_in = logs_in report.outcome; rounds = taken.rounds } in
+    let is : IsBatchLogin keys login = record { report = report; status_is = j.costs_so.rehearsal_is.status_is; logged_in_is = refl; key_is = t.key_is; derived = taken.derived } in
     let sums = sums-more s.logins login in
     record {
       logins = s.logins ++ login ∷ [];

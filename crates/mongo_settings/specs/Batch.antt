@@ -21,19 +21,19 @@ pub record BatchLogin : Type 0 where
   pub text : List ℕ
   pub status : RehearsalStatus
   pub key : Option SaltedKey
-  pub accepted : Bool
+  pub logged_in : Bool
   pub rounds : ℕ
 
 -- after logins with these accepted keys; the report knows nothing of them
 pub record IsBatchLogin (keys : List SaltedKey) (login : BatchLogin) : Type 0 where
   pub report : IsReport login.settings login.text
   pub status_is : login.status ≡ status_of report.outcome
-  pub accepted_is : login.accepted ≡ logs_in report.outcome
+  pub logged_in_is : login.logged_in ≡ logs_in report.outcome
   pub key_is : DerivesFrom login.settings login.key
   pub derived : DerivedKey keys login.key login.rounds
 
 abbrev pub keys_with : List SaltedKey → BatchLogin → List SaltedKey
-keys_with keys login = keys_after login.accepted login.key keys
+keys_with keys login = keys_after login.logged_in login.key keys
 
 unfoldable pub AreLogins : List SaltedKey → List BatchLogin → Type 0
 AreLogins keys [] = ⊤

@@ -1,7 +1,7 @@
 -- The keys of settings and of the objects in them: those of the format, and whether one of settings is read yet.
 use Rattle.std.specs.Prelude.{ℕ, Bool, true, false, Option, None, Some, is_some, if◌then◌else◌, List, [], ◌∷◌, codes, bytes_eq}
-use Rattle.mongo_settings.specs.declared.settings.keys.Reading.{Reading}
-use Rattle.mongo_settings.specs.declared.settings.keys.Reading.TheVariants.{Built, Later}
+use Rattle.mongo_settings.specs.declared.settings.keys.Support.{Support}
+use Rattle.mongo_settings.specs.declared.settings.keys.Support.TheVariants.{Built, Later}
 
 -- ---- keys of settings
 
@@ -79,10 +79,10 @@ aws_key = codes "aws"
 
 pub record Key : Type 0 where
   pub name : List ℕ
-  pub reading : Reading
+  pub support : Support
 
-abbrev pub key_row : List ℕ → Reading → Key
-key_row name reading = record { name = name; reading = reading }
+abbrev pub key_row : List ℕ → Support → Key
+key_row name support = record { name = name; support = support }
 
 abbrev pub built : List ℕ → Key
 built name = key_row name Built
@@ -99,23 +99,23 @@ keys =
     ∷ read_later moment_key ∷ built first_id_key ∷ built max_iterations_key ∷ read_later callback_key ∷ read_later tokens_key ∷ read_later aws_key ∷ []
 
 -- whether a key of these names is read; none where it isn't among them
-unfoldable pub reading_in : List Key → List ℕ → Option Reading
-reading_in [] name = None
-reading_in (key ∷ others) name = if bytes_eq key.name name then Some key.reading else reading_in others name
+unfoldable pub support_in : List Key → List ℕ → Option Support
+support_in [] name = None
+support_in (key ∷ others) name = if bytes_eq key.name name then Some key.support else support_in others name
 
-abbrev pub reading_of : List ℕ → Option Reading
-reading_of name = reading_in keys name
+abbrev pub support_of : List ℕ → Option Support
+support_of name = support_in keys name
 
 abbrev pub is_known : List ℕ → Bool
-is_known name = is_some (reading_of name)
+is_known name = is_some (support_of name)
 
-abbrev pub is_read_yet : Option Reading → Bool
+abbrev pub is_read_yet : Option Support → Bool
 is_read_yet None = false
 is_read_yet (Some Later) = false
 is_read_yet (Some Built) = true
 
 abbrev pub is_built : List ℕ → Bool
-is_built name = is_read_yet (reading_of name)
+is_built name = is_read_yet (support_of name)
 
 -- ---- the key of a batch
 

@@ -12,11 +12,11 @@ pub mod Report
 pub mod Outcome
 pub mod Rehearsal
 pub mod Login
-pub mod Telling
+pub mod Reporting
 pub mod Rounds
 pub mod Batch
 pub mod Logins
-pub mod Takes
+pub mod Costs
 pub mod Task
 pub mod Status
 pub mod Run

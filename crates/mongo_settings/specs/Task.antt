@@ -38,32 +38,32 @@ AreSpoken (many logins) = All IsLoginSpoken logins
 -- ---- the report
 
 -- a counter of steps, before and after
-pub record StepsTaken : Type 0 where
+pub record StepCounts : Type 0 where
   pub before : ℕ
   pub after : ℕ
 
-abbrev pub steps_of : ℕ → ℕ → StepsTaken
+abbrev pub steps_of : ℕ → ℕ → StepCounts
 steps_of before after = record { before = before; after = after }
 
 -- of a login alone: its key was derived, if it comes to one, and the steps rose by just those rounds
-pub record CountsKey (settings : Settings) (steps : StepsTaken) : Type 0 where
+pub record CountsKey (settings : Settings) (steps : StepCounts) : Type 0 where
   pub key : Option SaltedKey
   pub key_is : DerivesFrom settings key
   pub steps_are : steps.after ≡ steps.before + rounds_alone key
 
 -- the text is the report of one login, which came out so, and the steps rose by its rounds
-pub record ReportsOne (settings : Settings) (steps : StepsTaken) (status : RehearsalStatus) (text : List ℕ) : Type 0 where
+pub record ReportsOne (settings : Settings) (steps : StepCounts) (status : RehearsalStatus) (text : List ℕ) : Type 0 where
   pub report : IsReport settings text
   pub status_is : status ≡ status_of report.outcome
   pub counted : CountsKey settings steps
 
 -- the text is the report of a batch, which came out so, and the steps rose by its rounds
-pub record ReportsMany (settings : List Settings) (steps : StepsTaken) (status : RehearsalStatus) (text : List ℕ) : Type 0 where
+pub record ReportsMany (settings : List Settings) (steps : StepCounts) (status : RehearsalStatus) (text : List ℕ) : Type 0 where
   pub batch : IsBatch settings text
   pub status_is : status ≡ status_of_all batch.logins
   pub steps_are : steps.after ≡ steps.before + rounds_of_all batch.logins
 
-abbrev pub Reports : Asks → StepsTaken → RehearsalStatus → List ℕ → Type 0
+abbrev pub Reports : Asks → StepCounts → RehearsalStatus → List ℕ → Type 0
 Reports (one settings) steps status text = ReportsOne settings steps status text
 Reports (many logins) steps status text = ReportsMany logins steps status text
 

@@ -3,7 +3,7 @@ ghost use Rattle.std.specs.Prelude.{◌≡◌, ◌++◌, ◌≤◌, All, IfOk, O
 ghost use Rattle.mongo_scram.specs.Costs.{ledgers};
 ghost use Rattle.mongo_establish.specs.Speculation.{SpeaksFor};
 ghost use Rattle.mongo_settings.specs.Batch.{IsLoginSpoken, rounds_line};
-ghost use Rattle.mongo_settings.specs.Takes.{JoinsReport};
+ghost use Rattle.mongo_settings.specs.Costs.{JoinsReport};
 ghost use Rattle.mongo_settings.specs.Task.{ReportsMany, steps_of};
 
 use crate::rehearsal::{Rehearsal, RehearsalStatus, rehearse_with};

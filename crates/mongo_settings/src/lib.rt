@@ -20,7 +20,7 @@ mod task;
 
 pub use input_error::InputError;
 pub use output::write_report;
-pub use rehearsal::{Login, Rehearsal, RehearsalStatus, connect, prepare, report_outcome};
+pub use rehearsal::{PreparedLogin, Rehearsal, RehearsalStatus, connect, prepare, report_outcome};
 pub use report::line::{begin_line, end_line, push_hex, push_number};
 pub use settings::{MAXIMUM_SETTINGS_LENGTH, Settings, SettingsError, read_settings, settings_of};
 pub use status::Status;

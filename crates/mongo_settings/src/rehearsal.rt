@@ -3,19 +3,19 @@ ghost use Rattle.std.specs.Prelude.{◌≡◌, ◌≤◌, ℕ, List, IfOk};
 ghost use Rattle.mongo_scram.specs.Costs.{ledgers};
 ghost use Rattle.mongo_establish.specs.Speculation.{SpeaksFor};
 ghost use Rattle.mongo_settings.specs.Rehearsal.{IsReport};
-ghost use Rattle.mongo_settings.specs.Takes.{IsTaking};
+ghost use Rattle.mongo_settings.specs.Costs.{CostsAsReported};
 ghost use Rattle.mongo_settings.specs.Task.{ReportsOne, steps_of};
 
 mod login;
-mod telling;
+mod reporting;
 
 use crate::settings::Settings;
-pub use login::{Login, connect, prepare};
+pub use login::{PreparedLogin, connect, prepare};
 use mongo_establish::{LoginState, MemoryLink};
 use mongo_mac::Steps;
 use std::alloc::{AllocError, Global};
 use std::sync::ledger::Ledger;
-pub use telling::report_outcome;
+pub use reporting::report_outcome;
 
 /// How a rehearsal came out.
 #[derive(Clone, Copy, Debug, PartialEq, Eq)]
@@ -76,7 +76,7 @@ pub(crate) fn rehearse_with<G: Ledger>(
 ) -> Result<Rehearsal, AllocError>
     requires spoken { SpeaksFor settings.credential }
     // The report is that of the settings, whatever logins were made before.
-    ensures taking { IfOk result (IsTaking settings (ledgers steps.old state.old.salted) (ledgers steps.new state.new.salted)) }
+    ensures costs_so { IfOk result (CostsAsReported settings (ledgers steps.old state.old.salted) (ledgers steps.new state.new.salted)) }
     ensures steps { steps.old ≤ steps.new }
 {
     let (login, replies) = prepare(alloc, settings)?;

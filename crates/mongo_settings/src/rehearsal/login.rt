@@ -19,7 +19,7 @@ use std::sync::ledger::Ledger;
 
 /// All that is handed to one establishment but its link.
 #[derive(Drop)]
-pub struct Login {
+pub struct PreparedLogin {
     /// What makes the connection.
     pub establisher: ConnectionEstablisher,
     /// The connection that is asked for.
@@ -33,7 +33,7 @@ pub struct Login {
 }
 
 /// Makes the login of the settings ready, and hands on their reply bytes.
-pub fn prepare(alloc: Global, settings: Settings) -> Result<(Login, Bytes), AllocError>
+pub fn prepare(alloc: Global, settings: Settings) -> Result<(PreparedLogin, Bytes), AllocError>
     ensures login { IfOk result (λ ready. HasSetupOf settings ready.0) }
     ensures replies { IfOk result (λ ready. ready.1 ≡ settings.replies) }
 {
@@ -50,7 +50,7 @@ pub fn prepare(alloc: Global, settings: Settings) -> Result<(Login, Bytes), Allo
         Ok(establisher) => establisher,
         Err(error) => return Err(want_of_memory(error)),
     };
-    let login = Login {
+    let login = PreparedLogin {
         establisher,
         pending,
         credential,
@@ -76,7 +76,7 @@ fn establisher(
 /// Makes the connection of a login over a fresh link, with the salted passwords of the logins before.
 pub fn connect<L: Link, G: Ledger>(
     alloc: Global,
-    login: Login,
+    login: PreparedLogin,
     link: &mut L,
     state: &mut LoginState,
     steps: &mut Steps<G>,
@@ -86,7 +86,7 @@ pub fn connect<L: Link, G: Ledger>(
     ensures ended { EndsEstablishment (setup_by login) (L.state link.old) (L.state link.new) state.new.ids (ledgers steps.old state.old.salted) (ledgers steps.new state.new.salted) result }
     ensures steps { steps.old ≤ steps.new }
 {
-    let Login {
+    let PreparedLogin {
         establisher,
         pending,
         credential,

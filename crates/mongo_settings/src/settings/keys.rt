@@ -2,7 +2,7 @@
 ghost use Rattle.std.specs.Prelude.{◌≡◌, map};
 ghost use Rattle.serde_json.specs.View.{view, members_view};
 ghost use Rattle.mongo_settings.specs.Settings.{keys_judged, members_judged};
-ghost use Rattle.mongo_settings.specs.Keys.{key_row, reading_in, reading_of};
+ghost use Rattle.mongo_settings.specs.Keys.{key_row, support_in, support_of};
 
 use crate::settings::SettingsError;
 use serde_json::{Map, Value};
@@ -59,7 +59,7 @@ pub const AWS: &str = "aws";
 
 /// Whether the value of a key is read.
 #[derive(Clone, Copy, Debug, PartialEq, Eq)]
-pub enum Reading {
+pub enum Support {
     /// It is.
     Built,
     /// It isn't yet.
@@ -67,31 +67,31 @@ pub enum Reading {
 }
 
 // The keys of settings.
-const KEYS: [(&str, Reading); 24] = [
-    (HOST, Reading::Built),
-    (REPLIES, Reading::Built),
-    (PORT, Reading::Built),
-    (UNIX, Reading::Built),
-    (ID, Reading::Built),
-    (GENERATION, Reading::Built),
-    (LOAD_BALANCED, Reading::Built),
-    (GENERATIONS, Reading::Built),
-    (APP_NAME, Reading::Built),
-    (DRIVER_INFO, Reading::Built),
-    (SERVER_API, Reading::Built),
-    (OS, Reading::Built),
-    (PLATFORM, Reading::Built),
-    (PLATFORM_SHORT, Reading::Built),
-    (ENVIRONMENT, Reading::Built),
-    (DOCKERENV, Reading::Built),
-    (CREDENTIAL, Reading::Built),
-    (NONCES, Reading::Built),
-    (MOMENT, Reading::Later),
-    (FIRST_ID, Reading::Built),
-    (MAX_ITERATIONS, Reading::Built),
-    (CALLBACK, Reading::Later),
-    (TOKENS, Reading::Later),
-    (AWS, Reading::Later),
+const KEYS: [(&str, Support); 24] = [
+    (HOST, Support::Built),
+    (REPLIES, Support::Built),
+    (PORT, Support::Built),
+    (UNIX, Support::Built),
+    (ID, Support::Built),
+    (GENERATION, Support::Built),
+    (LOAD_BALANCED, Support::Built),
+    (GENERATIONS, Support::Built),
+    (APP_NAME, Support::Built),
+    (DRIVER_INFO, Support::Built),
+    (SERVER_API, Support::Built),
+    (OS, Support::Built),
+    (PLATFORM, Support::Built),
+    (PLATFORM_SHORT, Support::Built),
+    (ENVIRONMENT, Support::Built),
+    (DOCKERENV, Support::Built),
+    (CREDENTIAL, Support::Built),
+    (NONCES, Support::Built),
+    (MOMENT, Support::Later),
+    (FIRST_ID, Support::Built),
+    (MAX_ITERATIONS, Support::Built),
+    (CALLBACK, Support::Later),
+    (TOKENS, Support::Later),
+    (AWS, Support::Later),
 ];
 
 // ---- the key of a batch
@@ -159,9 +159,9 @@ fn judge_members(members: &Map<String, Value>) -> Result<(), SettingsError>
 {
     let mut all_built = true;
     for (key, _member) in members.iter() {
-        match reading_of(key.as_str()) {
-            Some(Reading::Built) => {}
-            Some(Reading::Later) => all_built = false,
+        match support_of(key.as_str()) {
+            Some(Support::Built) => {}
+            Some(Support::Later) => all_built = false,
             None => return Err(SettingsError::BadSettings),
         }
     }
@@ -173,15 +173,15 @@ fn judge_members(members: &Map<String, Value>) -> Result<(), SettingsError>
 }
 
 // Whether the value of a key is read; None where the format hasn't the key.
-fn reading_of(key: &str) -> Option<Reading>
-    ensures { result ≡ reading_of key.now }
+fn support_of(key: &str) -> Option<Support>
+    ensures { result ≡ support_of key.now }
 {
-    reading_in(&KEYS, key)
+    support_in(&KEYS, key)
 }
 
-#[tactic(auto, unfolding(crate::specs::Keys::reading_in))]
-fn reading_in(keys: &[(&str, Reading)], name: &str) -> Option<Reading>
-    ensures { result ≡ reading_in (map (λ row. key_row row.0.now row.1) keys.now) name.now }
+#[tactic(auto, unfolding(crate::specs::Keys::support_in))]
+fn support_in(keys: &[(&str, Support)], name: &str) -> Option<Support>
+    ensures { result ≡ support_in (map (λ row. key_row row.0.now row.1) keys.now) name.now }
 {
     for row in keys {
         if row.0 == name {

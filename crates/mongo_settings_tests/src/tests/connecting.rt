@@ -4,7 +4,7 @@ ghost use Rattle.mongo_establish.specs.Speculation.{SpeaksFor};
 use mongo_establish::{Bytes, LoginState, MemoryLink};
 use mongo_mac::Steps;
 use mongo_settings::{
-    Login, Rehearsal, Settings, connect, prepare, report_outcome, settings_of, write_report,
+    PreparedLogin, Rehearsal, Settings, connect, prepare, report_outcome, settings_of, write_report,
 };
 use serde_json::Value;
 use std::alloc::{AllocError, Global};
@@ -31,7 +31,7 @@ const TOLD: [(&str, &str); 2] = [
 fn told_over<G: Ledger>(
     blank: Blank,
     alloc: Global,
-    login: Login,
+    login: PreparedLogin,
     link: &mut MemoryLink,
     state: &mut LoginState,
 ) -> Result<Rehearsal, AllocError>

@@ -69,8 +69,8 @@ returns-in_default-command_of_query g c = record {
       c.in-Ok.ensures.taken on.unwritten.written h.user (lasts_unstopped before t lasts, lasts.writes) (refl, omega (arith, sixteen, length-append head body), no_query_body head body c.in-Some.rest sixteen code counted c.in-Ok.ensures.whole none) (flushed_after before s t f.on on) (none_spent c.args.settings.now (Some NoFrame) (head ++ body) c.args.steps.now);
 }
 
-pub returns-in-Ok-greet_query : goal.returns-in-Ok-greet_query
-returns-in-Ok-greet_query g c = record {
+pub returns-in-Ok-answer_query : goal.returns-in-Ok-answer_query
+returns-in-Ok-answer_query g c = record {
   turn = λ requests before h f.
       let s = g.L.Outside.state c.args.link.now in
       let t = g.L.Outside.state c.take_bytes.new.source in
@@ -85,10 +85,10 @@ returns-in-Ok-greet_query g c = record {
       let id_fits : FitsSigned w32 c.args.header.request_id = search rules in
       let counted : pos (16 + c.in-Some.rest) ≡ signed_at 0 head = c.in-Some.ensures.counted ∙ to_z-of_z w32 c.args.header.length length_fits ∙ sym (length_back c.args.header length_fits) in
       let is_body : IsQueryBody body command = subst (λ b. IsQueryBody b command) c.as_slice.ensures.value c.in-Some-command_of_query.ensures in
-      query_part c.args.settings.now requests before t new c.args.steps.now c.greet_query.new.steps c.args.serving.now.session c.args.serving.now.ids c.greet_query.new.session c.respond_to_query.new.ids head body command
+      query_part c.args.settings.now requests before t new c.args.steps.now c.answer_query.new.steps c.args.serving.now.session c.args.serving.now.ids c.answer_query.new.session c.respond_to_query.new.ids head body command
       (query_of head body command c.in-Some.rest sixteen code counted c.in-Ok.ensures.whole is_body) sixteen
-      (Consumes-trans before.left s.left t.left head body f.taken c.in-Ok.ensures.taken) (on.unwritten.written ∙ f.on.unwritten.written) (lasts_after before s t (unstopped_on before s t f.unstopped c.in-Ok.ensures.unstopped) f.on on) c.respond_to_query.ensures.on c.in-Ok-greet_query.reply
-      c.in-Ok-greet_query.ensures.answered c.in-Ok-greet_query.ensures.cost c.in-Ok-greet_query.ensures.greeting (c.in-Ok-greet_query.ensures.remembers requests h) _ (to_z-of_z w32 c.args.header.request_id id_fits ∙ sym (ap (λ x. x.request_id) (header_back c.args.header length_fits id_fits (search rules)).1))
+      (Consumes-trans before.left s.left t.left head body f.taken c.in-Ok.ensures.taken) (on.unwritten.written ∙ f.on.unwritten.written) (lasts_after before s t (unstopped_on before s t f.unstopped c.in-Ok.ensures.unstopped) f.on on) c.respond_to_query.ensures.on c.in-Ok-answer_query.reply
+      c.in-Ok-answer_query.ensures.answered c.in-Ok-answer_query.ensures.cost c.in-Ok-answer_query.ensures.is_hello (c.in-Ok-answer_query.ensures.remembers requests h) _ (to_z-of_z w32 c.args.header.request_id id_fits ∙ sym (ap (λ x. x.request_id) (header_back c.args.header length_fits id_fits (search rules)).1))
       c.respond_to_query.result c.respond_to_query.ensures.writes c.respond_to_query.ensures.sent c.respond_to_query.ensures.front c.respond_to_query.ensures.refused;
 }
 
@@ -108,7 +108,7 @@ returns g c = record {
       let is_body : IsQueryBody body command = subst (λ b. IsQueryBody b command) c.as_slice.ensures.value c.in-Some-command_of_query.ensures in
       let is_query = query_of head body command c.in-Some.rest sixteen code counted c.in-Ok.ensures.whole is_body in
       let lasts = lasts_after before s t (unstopped_on before s t f.unstopped c.in-Ok.ensures.unstopped) f.on on in
-      none_after c.args.settings.now requests before s t c.args.steps.now c.greet_query.new.steps c.args.serving.now.session c.args.serving.now.ids c.greet_query.new.session.user c.in-Err-greet_query.fault head body c.in-Err-greet_query.ensures.kept (inr (inr (command, inr is_query))) f
-      c.in-Ok.ensures.taken on.unwritten.written h.user (unasked_counted c.in-Err-greet_query.fault before t command c.in-Err-greet_query.ensures.refused lasts) (unasked c.in-Err-greet_query.fault before t (head ++ body) command is_query c.in-Err-greet_query.ensures.refused) (flushed_after before s t f.on on)
-      (unasked_spent c.args.settings.now c.in-Err-greet_query.fault (head ++ body) command c.args.steps.now c.greet_query.new.steps is_query c.in-Err-greet_query.ensures.refused c.in-Err-greet_query.ensures.no_cost c.in-Err-greet_query.ensures.at_most);
+      none_after c.args.settings.now requests before s t c.args.steps.now c.answer_query.new.steps c.args.serving.now.session c.args.serving.now.ids c.answer_query.new.session.user c.in-Err-answer_query.fault head body c.in-Err-answer_query.ensures.kept (inr (inr (command, inr is_query))) f
+      c.in-Ok.ensures.taken on.unwritten.written h.user (unasked_counted c.in-Err-answer_query.fault before t command c.in-Err-answer_query.ensures.refused lasts) (unasked c.in-Err-answer_query.fault before t (head ++ body) command is_query c.in-Err-answer_query.ensures.refused) (flushed_after before s t f.on on)
+      (unasked_spent c.args.settings.now c.in-Err-answer_query.fault (head ++ body) command c.args.steps.now c.answer_query.new.steps is_query c.in-Err-answer_query.ensures.refused c.in-Err-answer_query.ensures.no_cost c.in-Err-answer_query.ensures.at_most);
 }

@@ -2,14 +2,14 @@ use Rattle.std.proofs.Common.{rules}
 use Rattle.mongo_session.proofs.Carried.{start_carries, next_continues}
 use Rattle.mongo_session.proofs.Derived.{refused_after}
 use Rattle.mongo_session.proofs.Remembered.{remembers_later}
-use Rattle.mongo_session.specs.Costs.{StartRounds, TakesAtMost}
+use Rattle.mongo_session.specs.Costs.{StartRounds, CostsAtMost}
 use Rattle.mongo_session.proofs.answer.answer_request.Goals as goal
 
-pub returns-in_ok-greet-in-Hello-clause-remembers :
-    goal.returns-in_ok-greet-in-Hello-clause-remembers
-returns-in_ok-greet-in-Hello-clause-remembers g c = λ requests document h says.
+pub returns-in_ok-answer_hello-in-Hello-clause-remembers :
+    goal.returns-in_ok-answer_hello-in-Hello-clause-remembers
+returns-in_ok-answer_hello-in-Hello-clause-remembers g c = λ requests document h says.
     let hello = rw c.in-Hello.is at says in
-    c.greet.ensures.remembers requests document h hello
+    c.answer_hello.ensures.remembers requests document h hello
 
 pub returns-in_ok-start-in-SaslStart-clause-remembers :
     goal.returns-in_ok-start-in-SaslStart-clause-remembers
@@ -56,4 +56,4 @@ returns-in_ok-start-in-SaslStart-clause-cost g c = rw c.in-SaslStart.is c.in_ok-
 pub returns-in_err-start-in-SaslStart-clause-at_most :
     goal.returns-in_err-start-in-SaslStart-clause-at_most
 returns-in_err-start-in-SaslStart-clause-at_most g c =
-    rw c.in-SaslStart.is (refused_after (TakesAtMost (StartRounds c.args.settings.now c.in-SaslStart.start) c.args.steps.now c.start.new.steps) c.from_residual-in_err-start-in-SaslStart.result c.in_err-start-in-SaslStart.ensures.at_most)
+    rw c.in-SaslStart.is (refused_after (CostsAtMost (StartRounds c.args.settings.now c.in-SaslStart.start) c.args.steps.now c.start.new.steps) c.from_residual-in_err-start-in-SaslStart.result c.in_err-start-in-SaslStart.ensures.at_most)

@@ -1,16 +1,16 @@
 use Rattle.std.proofs.Common.{Some}
-use Rattle.mongo_session.proofs.Carried.{greeting_opens}
+use Rattle.mongo_session.proofs.Carried.{hello_starts}
 use Rattle.mongo_session.proofs.Remembered.{remembers_later}
 use Rattle.mongo_session.specs.Requests.{CarriesLogin}
 use Rattle.mongo_session.proofs.answer.begin.Goals as goal
 
 pub returns-in-Some-clause-remembers : goal.returns-in-Some-clause-remembers
-returns-in-Some-clause-remembers g c = λ requests document h greeting carries.
+returns-in-Some-clause-remembers g c = λ requests document h is_hello carries.
     let start : CarriesLogin document (Some c.in-Some.start) = rw c.in-Some.is at carries in
-    c.start.ensures.remembers requests document h (greeting_opens document c.in-Some.start greeting start)
+    c.start.ensures.remembers requests document h (hello_starts document c.in-Some.start is_hello start)
 
 pub returns-in-None-clause-remembers : goal.returns-in-None-clause-remembers
-returns-in-None-clause-remembers g c = λ requests document h greeting carries. remembers_later c.args.settings.now requests document c.args.session.now h
+returns-in-None-clause-remembers g c = λ requests document h is_hello carries. remembers_later c.args.settings.now requests document c.args.session.now h
 
 pub returns-in-Some-clause-cost : goal.returns-in-Some-clause-cost
 returns-in-Some-clause-cost g c = rw c.in-Some.is c.start.ensures.cost

@@ -4,7 +4,7 @@ use Rattle.mongo_command.proofs.Rest.{keeps_all}
 use Rattle.mongo_command.proofs.Talked.{counts_on, still_counts}
 use Rattle.mongo_scram.specs.Base64.{base64_of}
 use Rattle.mongo_scram.specs.Client.{handed_to, user_of}
-use Rattle.mongo_scram.specs.Costs.{ledgers, balance}
+use Rattle.mongo_scram.specs.Costs.{ledgers, checkpoint}
 use Rattle.mongo_scram.specs.Plan.{closing}
 use Rattle.mongo_sasl.proofs.Handed.{no_answer_on, on_answer, rest_on}
 use Rattle.mongo_sasl.proofs.DrawnIds.{twice_buffer}
@@ -79,7 +79,7 @@ returns-in_err-client_final-clause-login g c =
     let o = c.in_ok-opened.opened in
     let opening = c.in_ok-opened.ensures in
     let derived = c.in_ok-derived.derived in
-    let between = between_by handed user o derived.key derived.salted c.nonce.result.now (balance _ _ (ledgers c.args.steps.now c.args.salted.now)) (balance _ _ (ledgers c.answer.new.steps c.answer.new.cache)) c.in_ok-user.ensures.user opening.opened c.nonce.ensures c.in_ok-derived.ensures.key c.in_ok-derived.ensures.answered in
+    let between = between_by handed user o derived.key derived.salted c.nonce.result.now (checkpoint _ _ (ledgers c.args.steps.now c.args.salted.now)) (checkpoint _ _ (ledgers c.answer.new.steps c.answer.new.cache)) c.in_ok-user.ensures.user opening.opened c.nonce.ensures c.in_ok-derived.ensures.key c.in_ok-derived.ensures.answered in
     let e = c.in_err-client_final.field-0.0 in
     stopped_scram _ handed _ _ _ _ c.from_residual-in_err-client_final.result e c.from_residual-in_err-client_final.ensures.1
     (stopped_between handed user o derived.key derived.salted _ _ between e.kind _ _ (at_once_keeping (closing handed (challenge_by_first user o.server_first)) e.kind _ _ (inr (inl c.in_err-client_final.ensures.refused))))
@@ -98,7 +98,7 @@ returns-in_err-close-clause-login g c =
     let o = c.in_ok-opened.opened in
     let opening = c.in_ok-opened.ensures in
     let derived = c.in_ok-derived.derived in
-    let between = between_by handed user o derived.key derived.salted c.nonce.result.now (balance _ _ (ledgers c.args.steps.now c.args.salted.now)) (balance _ _ (ledgers c.answer.new.steps c.answer.new.cache)) c.in_ok-user.ensures.user opening.opened c.nonce.ensures c.in_ok-derived.ensures.key c.in_ok-derived.ensures.answered in
+    let between = between_by handed user o derived.key derived.salted c.nonce.result.now (checkpoint _ _ (ledgers c.args.steps.now c.args.salted.now)) (checkpoint _ _ (ledgers c.answer.new.steps c.answer.new.cache)) c.in_ok-user.ensures.user opening.opened c.nonce.ensures c.in_ok-derived.ensures.key c.in_ok-derived.ensures.answered in
     let challenge = challenge_by_first user o.server_first in
     let made = c.in_ok-client_final.ensures in
     let final = c.in_ok-client_final.client_final in
@@ -134,7 +134,7 @@ returns-clause-login g c =
     let o = c.in_ok-opened.opened in
     let opening = c.in_ok-opened.ensures in
     let derived = c.in_ok-derived.derived in
-    let between = between_by handed user o derived.key derived.salted c.nonce.result.now (balance _ _ (ledgers c.args.steps.now c.args.salted.now)) (balance _ _ (ledgers c.answer.new.steps c.answer.new.cache)) c.in_ok-user.ensures.user opening.opened c.nonce.ensures c.in_ok-derived.ensures.key c.in_ok-derived.ensures.answered in
+    let between = between_by handed user o derived.key derived.salted c.nonce.result.now (checkpoint _ _ (ledgers c.args.steps.now c.args.salted.now)) (checkpoint _ _ (ledgers c.answer.new.steps c.answer.new.cache)) c.in_ok-user.ensures.user opening.opened c.nonce.ensures c.in_ok-derived.ensures.key c.in_ok-derived.ensures.answered in
     let challenge = challenge_by_first user o.server_first in
     let made = c.in_ok-client_final.ensures in
     let final = c.in_ok-client_final.client_final in

@@ -1,7 +1,7 @@
 use Rattle.std.proofs.Common.{refl, sym, subst}
 use Rattle.mongo_server.specs.Server.{HasBegun}
 use Rattle.mongo_session.specs.Requests.{SaysSaslContinue}
-use Rattle.mongo_session.proofs.Remembered.{remembers_alone, user_later, opened_later, proved_now}
+use Rattle.mongo_session.proofs.Remembered.{remembers_alone, user_later, started_later, proved_now}
 use Rattle.mongo_session.proofs.session.Session.prove.Goals as goal
 
 pub returns-in-Ok-clause-remembers : goal.returns-in-Ok-clause-remembers
@@ -14,7 +14,7 @@ returns-in-Ok-clause-remembers c = λ settings requests document user login clos
         of_settings = login.of_settings;
         name_is = login.name_is;
         begun = subst (λ core. HasBegun core login.x) (sym c.in-Ok.ensures.unchanged) login.begun;
-        opened = opened_later login.x requests document login.opened;
+        opened = started_later login.x requests document login.opened;
         proved = λ _. proved_now login.x requests document login.opened (subst (SaysSaslContinue document) only closes);
       };
     }

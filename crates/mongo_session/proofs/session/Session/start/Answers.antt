@@ -1,5 +1,5 @@
 use Rattle.std.proofs.Common.{refl, None}
-use Rattle.mongo_session.proofs.Remembered.{remembers_alone, user_later, opens_with}
+use Rattle.mongo_session.proofs.Remembered.{remembers_alone, user_later, starts_with_start}
 use Rattle.mongo_session.proofs.session.Session.start.Goals as goal
 
 pub returns-in_err-opened-clause-remembers : goal.returns-in_err-opened-clause-remembers
@@ -10,7 +10,7 @@ returns-in-Some-clause-remembers g c = λ requests document h opens.
     let opened = rw c.in-Some.is at c.in_ok-opened.ensures.opened in
     record {
       user = user_later c.args.settings.now c.args.self.now.user requests document h.user;
-      login = opens_with c.args.settings.now requests document c.args.start c.in-Some.opened opened opens;
+      login = starts_with_start c.args.settings.now requests document c.args.start c.in-Some.opened opened opens;
     }
 
 pub returns-in-None-clause-remembers : goal.returns-in-None-clause-remembers

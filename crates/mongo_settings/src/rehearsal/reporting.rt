@@ -1,6 +1,6 @@
 //! The report of an establishment over a link.
 ghost use Rattle.std.specs.Prelude.{IsSome, IfOk};
-ghost use Rattle.mongo_settings.specs.Telling.{AreTrafficLines, TellsMade, TellsRefused, Tells};
+ghost use Rattle.mongo_settings.specs.Reporting.{AreTrafficLines, ReportsMade, ReportsRefused, ReportsOutcome};
 
 use crate::rehearsal::{Rehearsal, RehearsalStatus};
 use crate::report::outcome::{push_accepted, push_refused};
@@ -17,7 +17,7 @@ pub fn report_outcome(
     ended: Result<PooledConnection, EstablishError>,
 ) -> Result<Rehearsal, AllocError>
     requires described { IfOk ended (λ pooled. IsSome pooled.connection.stream_description) }
-    ensures told { IfOk result (Tells written.now taken ended) }
+    ensures told { IfOk result (ReportsOutcome written.now taken ended) }
 {
     report_ended(alloc, written, taken, &ended)
 }
@@ -30,7 +30,7 @@ fn report_ended(
     ended: &Result<PooledConnection, EstablishError>,
 ) -> Result<Rehearsal, AllocError>
     requires described { IfOk ended.now (λ pooled. IsSome pooled.connection.stream_description) }
-    ensures told { IfOk result (Tells written.now taken ended.now) }
+    ensures told { IfOk result (ReportsOutcome written.now taken ended.now) }
 {
     match ended {
         Ok(pooled) => accepted_report(alloc, written, taken, pooled),
@@ -56,7 +56,7 @@ fn accepted_report(
     pooled: &PooledConnection,
 ) -> Result<Rehearsal, AllocError>
     requires described { IsSome pooled.now.connection.stream_description }
-    ensures { IfOk result (TellsMade written.now taken pooled.now) }
+    ensures { IfOk result (ReportsMade written.now taken pooled.now) }
 {
     let Some(description) = &pooled.connection.stream_description else {
         unreachable!()
@@ -81,7 +81,7 @@ fn refused_report(
     taken: usize,
     refusal: &EstablishError,
 ) -> Result<Rehearsal, AllocError>
-    ensures { IfOk result (TellsRefused written.now taken refusal.now) }
+    ensures { IfOk result (ReportsRefused written.now taken refusal.now) }
 {
     if matches!(refusal.cause.kind, ErrorKind::OutOfMemory) {
         return Err(AllocError);

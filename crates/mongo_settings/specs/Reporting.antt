@@ -17,16 +17,16 @@ pub record AreTrafficLines (written : List ℕ) (taken : ℕ) (text : List ℕ) 
       → text ≡ sent_lines frames ++ read_count_line taken
 
 -- the text is that, and these last lines
-pub record IsTold (written : List ℕ) (taken : ℕ) (lines text : List ℕ) : Type 0 where
+pub record IsReportOver (written : List ℕ) (taken : ℕ) (lines text : List ℕ) : Type 0 where
   pub front : List ℕ
   pub traffic : AreTrafficLines written taken front
   pub text_is : text ≡ front ++ lines
 
 -- of a connection that was made
-pub record TellsMade (written : List ℕ) (taken : ℕ) (pooled : PooledConnection) (rehearsal : Rehearsal) : Type 0 where
+pub record ReportsMade (written : List ℕ) (taken : ℕ) (pooled : PooledConnection) (rehearsal : Rehearsal) : Type 0 where
   pub status : rehearsal.status ≡ Accepted
   pub text : (description : StreamDescription) → pooled.connection.stream_description ≡ Some description
-      → IsTold written taken (accepted_lines description pooled.generation pooled.connection.server_id) rehearsal.report.items
+      → IsReportOver written taken (accepted_lines description pooled.generation pooled.connection.server_id) rehearsal.report.items
 
 -- a cause that a report tells
 abbrev pub IsReported : ErrorKind → Type 0
@@ -34,12 +34,12 @@ IsReported OutOfMemory = ⊥
 IsReported kind = ⊤
 
 -- of a refusal
-pub record TellsRefused (written : List ℕ) (taken : ℕ) (refusal : EstablishError) (rehearsal : Rehearsal) : Type 0 where
+pub record ReportsRefused (written : List ℕ) (taken : ℕ) (refusal : EstablishError) (rehearsal : Rehearsal) : Type 0 where
   pub status : rehearsal.status ≡ Refused
   pub reported : IsReported refusal.cause.kind
-  pub text : IsTold written taken (refused_lines refusal.handshake_phase refusal.cause.kind) rehearsal.report.items
+  pub text : IsReportOver written taken (refused_lines refusal.handshake_phase refusal.cause.kind) rehearsal.report.items
 
 -- of either
-abbrev pub Tells : List ℕ → ℕ → Result PooledConnection EstablishError → Rehearsal → Type 0
-Tells written taken (Ok pooled) rehearsal = TellsMade written taken pooled rehearsal
-Tells written taken (Err refusal) rehearsal = TellsRefused written taken refusal rehearsal
+abbrev pub ReportsOutcome : List ℕ → ℕ → Result PooledConnection EstablishError → Rehearsal → Type 0
+ReportsOutcome written taken (Ok pooled) rehearsal = ReportsMade written taken pooled rehearsal
+ReportsOutcome written taken (Err refusal) rehearsal = ReportsRefused written taken refusal rehearsal

@@ -1,6 +1,6 @@
 use Rattle.std.proofs.Common.{suc, take, drop}
 use Rattle.mongo_session.proofs.Accounts.{split_at}
-use Rattle.mongo_session.proofs.open.account_named.Goals as goal
+use Rattle.mongo_session.proofs.start.account_named.Goals as goal
 
 pub returns-then-branch : goal.returns-then-branch
 returns-then-branch c =

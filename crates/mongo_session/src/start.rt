@@ -2,14 +2,14 @@
 
 ghost use Rattle.std.specs.Prelude.{◌≡◌, ◌≢◌, ◌↔◌, None, IsTrue, IfOk, IfErr, OnOk, OnErr};
 ghost use Rattle.mongo_server.specs.ClientMessages.{IsNonce};
-ghost use Rattle.mongo_session.specs.Costs.{KeyRounds, StartRounds, TakesAtMost, TakesRounds};
-ghost use Rattle.mongo_session.specs.Opened.{NamesUser, Suits, FindsAccount, OpensFor, OpensBy};
+ghost use Rattle.mongo_session.specs.Costs.{KeyRounds, StartRounds, CostsAtMost, CostsRounds};
+ghost use Rattle.mongo_session.specs.Started.{NamesUser, Suits, FindsAccount, StartsFor, StartsBy};
 ghost use Rattle.mongo_bson.specs.declared.fault.BsonFault.TheVariants.{OutOfMemory};
 ghost use Rattle.mongo_wire.specs.declared.error.ErrorKind.TheVariants.{OutOfMemory as WantOfMemory};
 
 use crate::request::StartRequest;
 use crate::serve_settings::{Account, ServeSettings};
-use crate::session::OpenLogin;
+use crate::session::PendingLogin;
 use mongo_bson::{BsonFault, Text};
 use mongo_mac::Steps;
 use mongo_scram::attributes::{GS2_HEADER, NEXT_NONCE, USER_NAME};
@@ -21,32 +21,32 @@ use std::sync::ledger::Ledger;
 
 /// A login that began, and the server's first message in it.
 #[derive(Drop)]
-pub struct OpenedLogin {
+pub struct StartedLogin {
     /// The login.
-    pub login: OpenLogin,
+    pub login: PendingLogin,
     /// The message.
     pub answer: Text,
 }
 
 /// Opens the login that a `saslStart` asks for: that of the first account of its mechanism whose user the client's first message
 /// names. None where there is no such account, where its mechanism doesn't take its password, and where the message's nonce isn't one.
-pub fn open_login<G: Ledger>(
+pub fn start_login<G: Ledger>(
     alloc: Global,
     settings: &ServeSettings,
     start: StartRequest<'_>,
     steps: &mut Steps<G>,
-) -> Result<Option<OpenedLogin>, BsonFault>
-    ensures opened { IfOk result (OpensBy settings.now start.entry) }
+) -> Result<Option<StartedLogin>, BsonFault>
+    ensures opened { IfOk result (StartsBy settings.now start.entry) }
     ensures refused { IfErr result (λ fault. fault ≡ OutOfMemory) }
     // The key of the account that is found is derived, also where the message is refused after that.
-    ensures cost { OnOk result (TakesRounds (StartRounds settings.now start.entry) steps.old steps.new) }
-    ensures at_most { OnErr result (TakesAtMost (StartRounds settings.now start.entry) steps.old steps.new) }
+    ensures cost { OnOk result (CostsRounds (StartRounds settings.now start.entry) steps.old steps.new) }
+    ensures at_most { OnErr result (CostsAtMost (StartRounds settings.now start.entry) steps.old steps.new) }
 {
     let (Some(version), Some(payload)) = (start.version, start.payload) else {
         return Ok(None);
     };
     match account_named(alloc, settings.accounts.as_slice(), version, payload)? {
-        Some(account) => open(
+        Some(account) => start_for(
             alloc,
             account,
             settings.suffix.as_str(),
@@ -103,19 +103,19 @@ fn names(alloc: Global, name: &str, payload: &[u8]) -> Result<bool, AllocError>
 }
 
 // The login of an account. The account's key is derived here.
-fn open<G: Ledger>(
+fn start_for<G: Ledger>(
     alloc: Global,
     account: &Account,
     suffix: &str,
     payload: &[u8],
     skips_empty_exchange: bool,
     steps: &mut Steps<G>,
-) -> Result<Option<OpenedLogin>, BsonFault>
+) -> Result<Option<StartedLogin>, BsonFault>
     requires { IsNonce suffix.now }
-    ensures opened { IfOk result (OpensFor account.now suffix.now payload.now skips_empty_exchange) }
+    ensures opened { IfOk result (StartsFor account.now suffix.now payload.now skips_empty_exchange) }
     ensures refused { IfErr result (λ fault. fault ≡ OutOfMemory) }
-    ensures cost { OnOk result (TakesRounds (KeyRounds account.now) steps.old steps.new) }
-    ensures at_most { OnErr result (TakesAtMost (KeyRounds account.now) steps.old steps.new) }
+    ensures cost { OnOk result (CostsRounds (KeyRounds account.now) steps.old steps.new) }
+    ensures at_most { OnErr result (CostsAtMost (KeyRounds account.now) steps.old steps.new) }
 {
     let salt = account.salt.try_clone(alloc)?;
     let user = match ServerUser::new(
@@ -132,8 +132,8 @@ fn open<G: Ledger>(
     };
     let mut core = ServerCore::new(user, Text::from_slice(alloc, suffix)?);
     match core.first(alloc, payload) {
-        Ok(answer) => Ok(Some(OpenedLogin {
-            login: OpenLogin {
+        Ok(answer) => Ok(Some(StartedLogin {
+            login: PendingLogin {
                 core,
                 name: account.name.try_clone(alloc)?,
                 skips_empty_exchange,
@@ -149,7 +149,7 @@ fn open<G: Ledger>(
 }
 
 // What becomes of a login whose account's password its mechanism doesn't take. The error is dropped here, once.
-fn no_login(error: Error) -> Result<Option<OpenedLogin>, BsonFault>
+fn no_login(error: Error) -> Result<Option<StartedLogin>, BsonFault>
     ensures none { IfOk result (λ found. (found ≡ None) × (error.kind ≢ WantOfMemory)) }
     ensures memory { IfErr result (λ fault. fault ≡ OutOfMemory) }
 {
@@ -157,7 +157,7 @@ fn no_login(error: Error) -> Result<Option<OpenedLogin>, BsonFault>
 }
 
 // The same by reference.
-fn no_login_by(kind: &ErrorKind) -> Result<Option<OpenedLogin>, BsonFault>
+fn no_login_by(kind: &ErrorKind) -> Result<Option<StartedLogin>, BsonFault>
     ensures none { IfOk result (λ found. (found ≡ None) × (kind.now ≢ WantOfMemory)) }
     ensures memory { IfErr result (λ fault. fault ≡ OutOfMemory) }
 {

@@ -1,7 +1,7 @@
 use Rattle.std.proofs.Common.{◌∙◌}
 use Rattle.mongo_session.proofs.Begun.{begins, unheard, unopened}
 use Rattle.mongo_session.proofs.Derived.{at_most_derived, key_derived, none_derived}
-use Rattle.mongo_session.proofs.open.open.Goals as goal
+use Rattle.mongo_session.proofs.start.start_for.Goals as goal
 
 pub returns-in-Ok-first-clause-opened : goal.returns-in-Ok-first-clause-opened
 returns-in-Ok-first-clause-opened g c =

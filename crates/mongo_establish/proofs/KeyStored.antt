@@ -17,7 +17,7 @@ use Rattle.mongo_sasl.specs.declared.mechanism.AuthMechanism.TheVariants.{MongoD
 use Rattle.mongo_scram.specs.declared.cache.SaltedKey.{SaltedKey}
 use Rattle.mongo_scram.specs.declared.scram_version.ScramVersion.{ScramVersion}
 use Rattle.mongo_scram.specs.Cache.{entries_of, Adds}
-use Rattle.mongo_scram.specs.Costs.{Ledgers, Balance, balance, key_by, HasEntry, SameEntries, CostsNothing, Accepted, StoppedClosing, StoppedScram}
+use Rattle.mongo_scram.specs.Costs.{Ledgers, Checkpoint, checkpoint, key_by, HasEntry, SameEntries, CostsNothing, Accepted, StoppedClosing, StoppedScram}
 use Rattle.mongo_scram.specs.Entry.{salted_of}
 use Rattle.mongo_scram.specs.Plan.{Handed, Challenge, opening}
 use Rattle.mongo_scram.specs.User.{User, IsUser, CredentialRow}
@@ -34,7 +34,7 @@ use Rattle.mongo_establish.specs.Costs.{AcceptedCosts, StoppedCosts, LoginCostsO
 use Rattle.mongo_establish.specs.Derivation.{derivation_by, derivation_of, login_derivation, derivation_plan}
 use Rattle.mongo_establish.specs.Established.{StoppedHandshake}
 use Rattle.mongo_establish.specs.Greeting.{Greeting}
-use Rattle.mongo_establish.specs.KeyCosts.{TakesKey, AcceptedTakes, RefusedTakes, TakesAsLed, CostsAsLed}
+use Rattle.mongo_establish.specs.KeyCosts.{StoresKey, AcceptedKeyCosts, RefusedKeyCosts, LedToKey, CostsAsLed}
 use Rattle.mongo_establish.specs.Login.{holds_users, logging_in, speculative_reply, IsMechanism, InvalidRow, scram_handed_by}
 use Rattle.mongo_establish.specs.Plan.{hello_plan}
 use Rattle.mongo_establish.specs.Pooled.{UnnamedService}
@@ -42,7 +42,7 @@ use Rattle.mongo_establish.specs.Speculation.{mechanism_before, ConversationRow,
 use Rattle.mongo_establish.specs.Spoken.{conversation_of, scram_in, IsScram}
 use Rattle.mongo_establish.specs.Stopped.{StoppedIn}
 use Rattle.mongo_establish.proofs.Compatible.{compatible}
-use Rattle.mongo_establish.proofs.DerivationSteps.{KeyTaken, KeySpent, taken_more, spent_more, taken_after, spent_after}
+use Rattle.mongo_establish.proofs.DerivationSteps.{KeyStored, KeySpent, taken_more, spent_more, taken_after, spent_after}
 use Rattle.mongo_establish.proofs.HelloPlan.{greeted}
 use Rattle.mongo_establish.proofs.Validated.{user_no_row}
 
@@ -56,15 +56,15 @@ kept_others : (key : SaltedKey) (first last : Ledgers) → (HasEntry first.cache
 kept_others key first last (inl had) = inl had.1
 kept_others key first last (inr adds) = inr adds
 
-accepted_takes : (handed : Handed) (buffer : FrameBuffer) (old new : Balance) (is : Accepted handed buffer old new) → TakesKey (key_by handed is.challenge) old.ledgers new.ledgers
+accepted_takes : (handed : Handed) (buffer : FrameBuffer) (old new : Checkpoint) (is : Accepted handed buffer old new) → StoresKey (key_by handed is.challenge) old.ledgers new.ledgers
 accepted_takes handed buffer old new is = record {
   derived = is.derived;
   entry = kept_entry (key_by handed is.challenge) old.ledgers new.ledgers is.kept;
   others = kept_others (key_by handed is.challenge) old.ledgers new.ledgers is.kept;
 }
 
-closing_takes : (handed : Handed) (kind : ErrorKind) (old new : Balance) (is : StoppedClosing handed kind old new)
-    → RefusedTakes (Some (key_by handed is.challenge)) old.ledgers new.ledgers ⊎ ((kind ≡ OutOfMemory) × CostsNothing old.ledgers new.ledgers)
+closing_takes : (handed : Handed) (kind : ErrorKind) (old new : Checkpoint) (is : StoppedClosing handed kind old new)
+    → RefusedKeyCosts (Some (key_by handed is.challenge)) old.ledgers new.ledgers ⊎ ((kind ≡ OutOfMemory) × CostsNothing old.ledgers new.ledgers)
 closing_takes handed kind old new is =
     elim is.derived [
       | inl derived ↦ inl (record { derived = derived; entries = is.entries })
@@ -89,7 +89,7 @@ module _ (version : ScramVersion) (mechanism : AuthMechanism) (setup : Setup) (c
   abbrev handed : Handed
   handed = scram_handed_by version setup credential greeting
 
-  scram_takes : (buffer : FrameBuffer) (old new : Balance) → Accepted handed buffer old new → KeyTaken (derivation_by (Some (Scram version)) mechanism setup credential greeting) old new
+  scram_takes : (buffer : FrameBuffer) (old new : Checkpoint) → Accepted handed buffer old new → KeyStored (derivation_by (Some (Scram version)) mechanism setup credential greeting) old new
   scram_takes buffer old new is = record {
     key = Some (key_by handed is.challenge);
     middle = is.middle;
@@ -98,7 +98,7 @@ module _ (version : ScramVersion) (mechanism : AuthMechanism) (setup : Setup) (c
     takes = accepted_takes handed buffer old new is;
   }
 
-  scram_spends : (kind : ErrorKind) (old new : Balance) → StoppedScram handed kind old new → KeySpent (derivation_by (Some (Scram version)) mechanism setup credential greeting) kind old new
+  scram_spends : (kind : ErrorKind) (old new : Checkpoint) → StoppedScram handed kind old new → KeySpent (derivation_by (Some (Scram version)) mechanism setup credential greeting) kind old new
   scram_spends kind old new is =
       elim is [
         | inl early ↦ inl (record { stopped = opening_stopped version mechanism setup credential greeting kind old.state new.state old.id new.id none early.0; nothing = early.1 })
@@ -137,26 +137,26 @@ taken credential reply description mechanism is made scram =
 -- ---- by its mechanism
 
 -- without a key
-nothing_taken : (old new : Balance) → CostsNothing old.ledgers new.ledgers → KeyTaken (ending None) old new
+nothing_taken : (old new : Checkpoint) → CostsNothing old.ledgers new.ledgers → KeyStored (ending None) old new
 nothing_taken old new nothing = record { key = None; middle = old.state; between = old.id; reached = reached_ending None old.state old.id; takes = nothing }
 
-nothing_spent : (kind : ErrorKind) (old new : Balance) → CostsNothing old.ledgers new.ledgers → KeySpent (ending None) kind old new
+nothing_spent : (kind : ErrorKind) (old new : Checkpoint) → CostsNothing old.ledgers new.ledgers → KeySpent (ending None) kind old new
 nothing_spent kind old new nothing = inr (record { key = None; middle = old.state; between = old.id; reached = reached_ending None old.state old.id; takes = inl nothing })
 
-key_taken_by : (conversation : Option Conversation) (mechanism : AuthMechanism) (setup : Setup) (credential : Credential) (greeting : Greeting) (old new : Balance) → (IsScram conversation → HasNone (InvalidRow (speculative_reply setup greeting) mechanism credential))
-    → AcceptedCosts (scram_in conversation) setup credential greeting old new → KeyTaken (derivation_by conversation mechanism setup credential greeting) old new
+key_taken_by : (conversation : Option Conversation) (mechanism : AuthMechanism) (setup : Setup) (credential : Credential) (greeting : Greeting) (old new : Checkpoint) → (IsScram conversation → HasNone (InvalidRow (speculative_reply setup greeting) mechanism credential))
+    → AcceptedCosts (scram_in conversation) setup credential greeting old new → KeyStored (derivation_by conversation mechanism setup credential greeting) old new
 unfolding derivation_by
 key_taken_by (Some (Scram version)) mechanism setup credential greeting old new none c = scram_takes version mechanism setup credential greeting (none tt) c.buffer old new c.accepted
 key_taken_by conversation mechanism setup credential greeting old new none c = nothing_taken old new c
 
-spent_by : (conversation : Option Conversation) (mechanism : AuthMechanism) (setup : Setup) (credential : Credential) (greeting : Greeting) (kind : ErrorKind) (old new : Balance) → (IsScram conversation → HasNone (InvalidRow (speculative_reply setup greeting) mechanism credential))
+spent_by : (conversation : Option Conversation) (mechanism : AuthMechanism) (setup : Setup) (credential : Credential) (greeting : Greeting) (kind : ErrorKind) (old new : Checkpoint) → (IsScram conversation → HasNone (InvalidRow (speculative_reply setup greeting) mechanism credential))
     → StoppedCosts (scram_in conversation) setup credential greeting kind old new → KeySpent (derivation_by conversation mechanism setup credential greeting) kind old new
 unfolding derivation_by
 spent_by (Some (Scram version)) mechanism setup credential greeting kind old new none c = scram_spends version mechanism setup credential greeting (none tt) kind old new c
 spent_by conversation mechanism setup credential greeting kind old new none c = nothing_spent kind old new c
 
 -- the mechanism doesn't take the credential
-row_spent : (conversation : Option Conversation) (mechanism : AuthMechanism) (setup : Setup) (credential : Credential) (greeting : Greeting) (kind : ErrorKind) (old new : Balance) → (IsScram conversation → HasNone (InvalidRow (speculative_reply setup greeting) mechanism credential))
+row_spent : (conversation : Option Conversation) (mechanism : AuthMechanism) (setup : Setup) (credential : Credential) (greeting : Greeting) (kind : ErrorKind) (old new : Checkpoint) → (IsScram conversation → HasNone (InvalidRow (speculative_reply setup greeting) mechanism credential))
     → InvalidRow (speculative_reply setup greeting) mechanism credential kind → CostsNothing old.ledgers new.ledgers → KeySpent (derivation_by conversation mechanism setup credential greeting) kind old new
 unfolding derivation_by
 row_spent (Some (Scram version)) mechanism setup credential greeting kind old new none row nothing = absurd (none tt kind row)
@@ -164,14 +164,14 @@ row_spent conversation mechanism setup credential greeting kind old new none row
 
 -- ---- a login
 
-login_taken : (who : Option Credential) (setup : Setup) (greeting : Greeting) (old new : Balance) → HasNone (HelloRow who) → LoginCostsOf who setup greeting old new → KeyTaken (derivation_of who setup greeting) old new
+login_taken : (who : Option Credential) (setup : Setup) (greeting : Greeting) (old new : Checkpoint) → HasNone (HelloRow who) → LoginCostsOf who setup greeting old new → KeyStored (derivation_of who setup greeting) old new
 login_taken None setup greeting old new made c = nothing_taken old new c
 login_taken (Some credential) setup greeting old new made c =
     let none = taken credential (speculative_reply setup greeting) greeting.description c.mechanism c.is_mechanism made in
     taken_more (derivation_by (conversation_of c.mechanism) c.mechanism setup credential greeting) (derivation_of (Some credential) setup greeting) old new (λ past turn h. (c.mechanism, c.is_mechanism, h))
     (key_taken_by (conversation_of c.mechanism) c.mechanism setup credential greeting old new none c.costs)
 
-login_spent : (who : Option Credential) (setup : Setup) (greeting : Greeting) (kind : ErrorKind) (old new : Balance) → HasNone (HelloRow who) → StoppedLoginCostsOf who setup greeting kind old new → KeySpent (derivation_of who setup greeting) kind old new
+login_spent : (who : Option Credential) (setup : Setup) (greeting : Greeting) (kind : ErrorKind) (old new : Checkpoint) → HasNone (HelloRow who) → StoppedLoginCostsOf who setup greeting kind old new → KeySpent (derivation_of who setup greeting) kind old new
 login_spent None setup greeting kind old new made c = nothing_spent kind old new c
 login_spent (Some credential) setup greeting kind old new made c =
     let none = taken credential (speculative_reply setup greeting) greeting.description c.mechanism c.is_mechanism made in
@@ -192,39 +192,39 @@ hello_made : (setup : Setup) (greeting : Greeting) (old middle : State) (before 
 hello_made setup greeting old middle before between r =
     who_made (holds_users greeting.description.initial_server_type) setup.credential (greeted setup r.events greeting (record { follows = r.talked.follows; answer_is = r.answer_is })).made
 
-pub handshake_taken : (setup : Setup) (greeting : Greeting) (old new : Balance) → HandshakeCosts setup greeting old new → KeyTaken (derivation_plan setup) old new
+pub handshake_taken : (setup : Setup) (greeting : Greeting) (old new : Checkpoint) → HandshakeCosts setup greeting old new → KeyStored (derivation_plan setup) old new
 unfolding derivation_plan login_derivation
 handshake_taken setup greeting old new h =
     taken_after (hello_plan setup) (login_derivation setup) greeting h.middle h.between old new h.hello
-    (login_taken (logging_in setup greeting) setup greeting (balance h.middle h.between old.ledgers) new (hello_made setup greeting old.state h.middle old.id h.between h.hello) h.login)
+    (login_taken (logging_in setup greeting) setup greeting (checkpoint h.middle h.between old.ledgers) new (hello_made setup greeting old.state h.middle old.id h.between h.hello) h.login)
 
 -- a login was accepted, and its server had named no service
-abbrev pub UnnamedCosts : Setup → ErrorKind → Balance → Balance → Type 0
+abbrev pub UnnamedCosts : Setup → ErrorKind → Checkpoint → Checkpoint → Type 0
 UnnamedCosts setup kind old new = (kind ≡ IncompatibleServer) × ((greeting : Greeting) × HandshakeCosts setup greeting old new)
 
 -- one that was stopped, or whose server named no service
 pub establishment_spent : (phase : HandshakePhase) (setup : Setup) (kind : ErrorKind) (old new : State) (after : ℤ) (first last : Ledgers) → StoppedIn phase setup kind old new after first last
-    → KeySpent (derivation_plan setup) kind (balance old setup.first_id first) (balance new after last) ⊎ UnnamedCosts setup kind (balance old setup.first_id first) (balance new after last)
+    → KeySpent (derivation_plan setup) kind (checkpoint old setup.first_id first) (checkpoint new after last) ⊎ UnnamedCosts setup kind (checkpoint old setup.first_id first) (checkpoint new after last)
 unfolding derivation_plan login_derivation
 establishment_spent (PreHello generation) setup kind old new after first last (is, stopped, nothing) = inl (inl (record { stopped = (stopped.0, stopped_first (hello_plan setup) (login_derivation setup) kind old new setup.first_id after stopped.1); nothing = nothing }))
 establishment_spent (PostHello generation) setup kind old new after first last s =
     let made = hello_made setup s.greeting old s.middle setup.first_id s.between s.hello in
     elim s.stopped [
-      | inl l ↦ inl (spent_after (hello_plan setup) (login_derivation setup) s.greeting kind s.middle s.between (balance old setup.first_id first) (balance new after last) s.hello
-          (login_spent (logging_in setup s.greeting) setup s.greeting kind (balance s.middle s.between first) (balance new after last) made l.costs))
+      | inl l ↦ inl (spent_after (hello_plan setup) (login_derivation setup) s.greeting kind s.middle s.between (checkpoint old setup.first_id first) (checkpoint new after last) s.hello
+          (login_spent (logging_in setup s.greeting) setup s.greeting kind (checkpoint s.middle s.between first) (checkpoint new after last) made l.costs))
       | inr u ↦ inr (u.unnamed.0, (s.greeting, record { middle = s.middle; between = s.between; hello = s.hello; login = u.costs }))
     ]
 
 -- ---- over told bytes
 
-takes_led : (setup : Setup) (bytes : List ℕ) (old new : Balance) → KeyTaken (derivation_plan setup) old new → old.state.left ≡ Some bytes → TakesAsLed setup bytes (λ key. AcceptedTakes key old.ledgers new.ledgers)
+takes_led : (setup : Setup) (bytes : List ℕ) (old new : Checkpoint) → KeyStored (derivation_plan setup) old new → old.state.left ≡ Some bytes → LedToKey setup bytes (λ key. AcceptedKeyCosts key old.ledgers new.ledgers)
 takes_led setup bytes old new a is =
     let l = reached_led (derivation_plan setup) a.key old.state a.middle old.id a.between bytes a.reached is in
     record { key = a.key; leads = record { outcome = ends a.key; commands = l.commands; taken = l.taken; unread = l.unread; leads = l.leads; key_is = refl }; taken = a.takes }
 
 -- memory ran out, or the bytes lead to the key
-spends_led : (setup : Setup) (kind : ErrorKind) (bytes : List ℕ) (old new : Balance) → KeySpent (derivation_plan setup) kind old new → old.state.left ≡ Some bytes → Unfailed old.state new.state
-    → (kind ≡ OutOfMemory) ⊎ TakesAsLed setup bytes (λ key. RefusedTakes key old.ledgers new.ledgers)
+spends_led : (setup : Setup) (kind : ErrorKind) (bytes : List ℕ) (old new : Checkpoint) → KeySpent (derivation_plan setup) kind old new → old.state.left ≡ Some bytes → Unfailed old.state new.state
+    → (kind ≡ OutOfMemory) ⊎ LedToKey setup bytes (λ key. RefusedKeyCosts key old.ledgers new.ledgers)
 spends_led setup kind bytes old new s is unfailed =
     elim s [
       | inl early ↦ elim (stopped_led (derivation_plan setup) kind old.state new.state old.id new.id bytes early.stopped.1 is unfailed) [
@@ -240,7 +240,7 @@ spends_led setup kind bytes old new s is unfailed =
     ]
 
 -- a handshake that was accepted: the connection is ready, or its server named no service
-pub pooled_led : (r : Result PooledConnection EstablishError) (setup : Setup) (greeting : Greeting) (old new : Balance) → HandshakeCosts setup greeting old new → IfErr r (λ e. e.cause.kind ≡ IncompatibleServer) → CostsAsLed r setup old.state new.state old.ledgers new.ledgers
+pub pooled_led : (r : Result PooledConnection EstablishError) (setup : Setup) (greeting : Greeting) (old new : Checkpoint) → HandshakeCosts setup greeting old new → IfErr r (λ e. e.cause.kind ≡ IncompatibleServer) → CostsAsLed r setup old.state new.state old.ledgers new.ledgers
 pooled_led (Ok pooled) setup greeting old new h unnamed = record { over = λ bytes is unfailed. takes_led setup bytes old new (handshake_taken setup greeting old new h) is }
 pooled_led (Err e) setup greeting old new h unnamed = record { over = λ bytes is unfailed. inr (inl (record { kind_is = unnamed; led = takes_led setup bytes old new (handshake_taken setup greeting old new h) is })) }
 
@@ -258,7 +258,7 @@ pub refused_led : (e : EstablishError) (setup : Setup) (old new : State) (after 
 refused_led e setup old new after first last s other = record {
   over = λ bytes is unfailed.
       elim (establishment_spent e.handshake_phase setup e.cause.kind old new after first last s) [
-        | inl spent ↦ elim (spends_led setup e.cause.kind bytes (balance old setup.first_id first) (balance new after last) spent is unfailed) [
+        | inl spent ↦ elim (spends_led setup e.cause.kind bytes (checkpoint old setup.first_id first) (checkpoint new after last) spent is unfailed) [
           | inl memory ↦ inl memory
           | inr led ↦ inr (inr (record { other = other; led = led }))
         ]

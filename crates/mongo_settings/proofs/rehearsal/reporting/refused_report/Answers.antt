@@ -1,6 +1,6 @@
 use Rattle.std.proofs.Common.{arith, refl}
 use Rattle.std.proofs.lemmas.Grind.{common_steps}
-use Rattle.mongo_settings.proofs.rehearsal.telling.refused_report.Goals as goal
+use Rattle.mongo_settings.proofs.rehearsal.reporting.refused_report.Goals as goal
 
 pub returns : goal.returns
 returns c = record {

@@ -1,7 +1,7 @@
 use Rattle.mongo_settings.specs.Task.{steps_of}
 use Rattle.mongo_settings.proofs.Rehearsing.{described}
 use Rattle.mongo_connect.proofs.Recalled.{told_over, untold_over}
-use Rattle.mongo_connect.proofs.connecting.tell_over.Goals as goal
+use Rattle.mongo_connect.proofs.connecting.report_over.Goals as goal
 
 pub report_outcome-requires : goal.report_outcome-requires
 report_outcome-requires g c = record { described = described _ _ _ _ _ _ c.connect-ended.result c.connect-ended.ensures.ended.established }

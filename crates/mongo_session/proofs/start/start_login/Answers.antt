@@ -1,10 +1,10 @@
 use Rattle.std.proofs.Common.{rules, Option, None, Some, subst}
 use Rattle.std.specs.Borrow.{Bor}
-use Rattle.mongo_session.specs.Opened.{FindsAccount}
+use Rattle.mongo_session.specs.Started.{FindsAccount}
 use Rattle.mongo_session.specs.declared.serve_settings.Account.{Account}
-use Rattle.mongo_session.proofs.Begun.{none_suits, opens_all}
+use Rattle.mongo_session.proofs.Begun.{none_suits, starts_all}
 use Rattle.mongo_session.proofs.Derived.{no_rounds, none_finds, start_at_most, start_cost}
-use Rattle.mongo_session.proofs.open.open_login.Goals as goal
+use Rattle.mongo_session.proofs.start.start_login.Goals as goal
 
 pub returns-in-Some-clause-opened : goal.returns-in-Some-clause-opened
 returns-in-Some-clause-opened g c =
@@ -15,7 +15,7 @@ returns-in-Some-clause-opened g c =
     let account = c.in-Some.account in
     let found : FindsAccount settings.accounts.items version message.now (Some account) =
     subst (λ accounts. FindsAccount accounts version message.now (Some account)) c.as_slice.ensures.value (rw c.in-Some.is at c.in_ok-account.ensures) in
-    opens_all settings start version message c.in-Some-Some.is-0 c.in-Some-Some.is-1 account.now c.as_str.result.now found c.as_str.ensures c.open.result c.open.ensures.opened
+    starts_all settings start version message c.in-Some-Some.is-0 c.in-Some-Some.is-1 account.now c.as_str.result.now found c.as_str.ensures c.start_for.result c.start_for.ensures.opened
 
 pub returns-in-None-clause-opened : goal.returns-in-None-clause-opened
 returns-in-None-clause-opened g c =
@@ -39,7 +39,7 @@ returns-in-Some-clause-cost g c =
     let account = c.in-Some.account in
     let found : FindsAccount settings.accounts.items version message.now (Some account) =
     subst (λ accounts. FindsAccount accounts version message.now (Some account)) c.as_slice.ensures.value (rw c.in-Some.is at c.in_ok-account.ensures) in
-    start_cost settings start version message c.in-Some-Some.is-0 c.in-Some-Some.is-1 account.now found c.args.steps.now c.open.new.steps c.open.result c.open.ensures.cost
+    start_cost settings start version message c.in-Some-Some.is-0 c.in-Some-Some.is-1 account.now found c.args.steps.now c.start_for.new.steps c.start_for.result c.start_for.ensures.cost
 
 pub returns-in-Some-clause-at_most : goal.returns-in-Some-clause-at_most
 returns-in-Some-clause-at_most g c =
@@ -50,7 +50,7 @@ returns-in-Some-clause-at_most g c =
     let account = c.in-Some.account in
     let found : FindsAccount settings.accounts.items version message.now (Some account) =
     subst (λ accounts. FindsAccount accounts version message.now (Some account)) c.as_slice.ensures.value (rw c.in-Some.is at c.in_ok-account.ensures) in
-    start_at_most settings start version message c.in-Some-Some.is-0 c.in-Some-Some.is-1 account.now found c.args.steps.now c.open.new.steps c.open.result c.open.ensures.at_most
+    start_at_most settings start version message c.in-Some-Some.is-0 c.in-Some-Some.is-1 account.now found c.args.steps.now c.start_for.new.steps c.start_for.result c.start_for.ensures.at_most
 
 pub returns-in-None-clause-cost : goal.returns-in-None-clause-cost
 returns-in-None-clause-cost g c =

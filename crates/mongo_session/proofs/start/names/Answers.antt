@@ -2,7 +2,7 @@ use Rattle.std.proofs.Common.{◌++◌, drop, length, ap, ◌∙◌}
 use Rattle.std.proofs.lemmas.Bool.Decides.{Decides-eqb}
 use Rattle.std.proofs.lemmas.Slice.Eq.{starts_is}
 use Rattle.mongo_session.proofs.Begun.{names_front}
-use Rattle.mongo_session.proofs.open.names.Goals as goal
+use Rattle.mongo_session.proofs.start.names.Goals as goal
 use Rattle.mongo_scram.specs.Attributes.{after_comma, nonce_attribute, user_name_attribute}
 
 pub returns : goal.returns

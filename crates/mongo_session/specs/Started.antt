@@ -8,7 +8,7 @@ use Rattle.mongo_scram.specs.declared.scram_version.ScramVersion.{ScramVersion}
 use Rattle.mongo_server.specs.ClientMessages.{IsNonce}
 use Rattle.mongo_server.specs.Authentication.{Authentication, first_of}
 use Rattle.mongo_wire.specs.declared.error.ErrorKind.{ErrorKind}
-use Rattle.mongo_session.specs.declared.open.OpenedLogin.{OpenedLogin}
+use Rattle.mongo_session.specs.declared.start.StartedLogin.{StartedLogin}
 use Rattle.mongo_session.specs.declared.request.StartRequest.{StartRequest}
 use Rattle.mongo_session.specs.declared.serve_settings.Account.{Account}
 use Rattle.mongo_session.specs.declared.serve_settings.ServeSettings.{ServeSettings}
@@ -40,22 +40,22 @@ FindsAccount accounts version message (Some account) = IsFound accounts version 
 -- ---- the login
 
 -- the message is a client's first of the account's authentication of this nonce, and the mechanism takes the password
-pub record IsOpening (account : Account) (suffix message nonce : List ℕ) : Type 0 where
+pub record IsStartFor (account : Account) (suffix message nonce : List ℕ) : Type 0 where
   pub usable : (kind : ErrorKind) → PasswordRow account.version account.password kind → ⊥
   pub printable : IsNonce nonce
   pub said : message ≡ open_message account.name nonce
 
 -- a login of the authentication has begun, and the answer is the server's first message
-pub record BeginsAuthentication (x : Authentication) (skips : Bool) (opened : OpenedLogin) : Type 0 where
+pub record BeginsAuthentication (x : Authentication) (skips : Bool) (opened : StartedLogin) : Type 0 where
   pub begun : IsBegun x skips opened.login
   pub answer_is : opened.answer ≡ first_of x
 
 -- what the message comes to at an account
-abbrev pub OpensFor : Account → List ℕ → List ℕ → Bool → Option OpenedLogin → Type 0
-OpensFor account suffix message skips None = (nonce : List ℕ) → IsOpening account suffix message nonce → ⊥
-OpensFor account suffix message skips (Some opened) = (nonce : List ℕ) × IsOpening account suffix message nonce × BeginsAuthentication (authentication_of account suffix nonce) skips opened
+abbrev pub StartsFor : Account → List ℕ → List ℕ → Bool → Option StartedLogin → Type 0
+StartsFor account suffix message skips None = (nonce : List ℕ) → IsStartFor account suffix message nonce → ⊥
+StartsFor account suffix message skips (Some opened) = (nonce : List ℕ) × IsStartFor account suffix message nonce × BeginsAuthentication (authentication_of account suffix nonce) skips opened
 
 -- what a `saslStart` comes to: a login begins exactly where it asks for an authentication of the settings
-abbrev pub OpensBy : ServeSettings → StartRequest → Option OpenedLogin → Type 0
-OpensBy settings start None = (x : Authentication) → AsksFor settings start x → ⊥
-OpensBy settings start (Some opened) = (x : Authentication) × AsksFor settings start x × BeginsAuthentication x start.skips_empty_exchange opened
+abbrev pub StartsBy : ServeSettings → StartRequest → Option StartedLogin → Type 0
+StartsBy settings start None = (x : Authentication) → AsksFor settings start x → ⊥
+StartsBy settings start (Some opened) = (x : Authentication) × AsksFor settings start x × BeginsAuthentication x start.skips_empty_exchange opened

@@ -1,8 +1,0 @@
-use Rattle.mongo_session.proofs.Carried.{greeting_carried}
-use Rattle.mongo_session.proofs.answer.greet.Goals as goal
-
-pub returns-in_err-speculation-clause-remembers : goal.returns-in_err-speculation-clause-remembers
-returns-in_err-speculation-clause-remembers g c = λ requests document h says. c.begin.ensures.remembers requests document h (greeting_carried document c.args.hello.is_legacy says.name) says.speculation
-
-pub returns-clause-remembers : goal.returns-clause-remembers
-returns-clause-remembers g c = λ requests document h says. c.begin.ensures.remembers requests document h (greeting_carried document c.args.hello.is_legacy says.name) says.speculation

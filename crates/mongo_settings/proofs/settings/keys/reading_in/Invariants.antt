@@ -1,6 +1,0 @@
-use Rattle.std.proofs.Common.{◌≡◌, map, drop}
-use Rattle.mongo_settings.specs.Keys.{key_row, reading_in}
-use Rattle.mongo_settings.proofs.settings.keys.reading_in.Given as goal
-
-abbrev pub invariant-loop-row : goal.invariant-loop-row
-invariant-loop-row l = reading_in (map (λ row. key_row row.0.now row.1) (drop l.row-index l.keys)) l.name ≡ reading_in (map (λ row. key_row row.0.now row.1) l.keys) l.name
