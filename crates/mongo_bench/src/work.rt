@@ -214,7 +214,7 @@ impl Work {
     {
         let mut source = StdSource::new(frame);
         let message = read_frame(alloc, &mut source, None, buffer)?;
-        let length = message.sections.len().wrapping_add(HEADER_AND_FLAGS);
+        let length = message.sections.len() + HEADER_AND_FLAGS;
         self.read += 1;
         Ok(length)
     }
@@ -228,7 +228,7 @@ impl Work {
         let message = Message::read_from(alloc, &mut source, None)?;
         let document = message.document_payload.as_bytes().len();
         self.read_owned += 1;
-        Ok(document.wrapping_add(HEADER_AND_FLAGS + 1))
+        Ok(document + HEADER_AND_FLAGS + 1)
     }
 
     // One command of an insert: how many bytes its document has.

@@ -83,7 +83,9 @@ fn with_id_first(alloc: Global, document: &[u8], id: ObjectId) -> Result<RawDocu
         return Err(BsonFault::TooLong);
     }
     let mut held = Vec::with_capacity(alloc, document.len() + ID_ELEMENT)?;
-    held.extend_from_slice(&[5, 0, 0, 0, 0])?;
+    let Ok(()) = held.extend_from_slice(&[5, 0, 0, 0, 0]) else {
+        unreachable!()
+    };
     push_element(&mut held, ID_KEY, RawValue::ObjectId(id))?;
     push_elements(&mut held, element_bytes(document))?;
     Ok(RawDocumentBuf { held })

@@ -55,6 +55,13 @@ impl<T> Items<T> {
     {
         self.held.as_slice()
     }
+
+    /// The vector that holds the items.
+    pub fn into_vec(self) -> Vec<T>
+        ensures { result.items ≡ self }
+    {
+        self.held
+    }
 }
 
 impl<T: Drop> Items<T> {
@@ -77,7 +84,7 @@ impl<T: TryClone + Drop> Items<T> {
     {
         let mut copies = Vec::with_capacity(alloc, self.held.len())?;
         for item in self.held.as_slice() {
-            copies.push(item.try_clone(alloc)?)?;
+            copies.push_reserved(item.try_clone(alloc)?);
         }
         Ok(Items { held: copies })
     }

@@ -39,8 +39,10 @@ impl RawDocumentBuf {
         ensures refused { IfErr result (λ fault. fault ≡ BsonFault.OutOfMemory) }
     {
         let mut held = Vec::with_capacity(alloc, FIRST_CAPACITY)?;
-        held.extend_from_slice(&[5, 0, 0, 0, 0])?;
-        Ok(RawDocumentBuf { held })
+        match held.extend_from_slice(&[5, 0, 0, 0, 0]) {
+            Ok(()) => Ok(RawDocumentBuf { held }),
+            Err(_) => unreachable!(),
+        }
     }
 
     /// Takes memory for so many bytes more and no further ones, where it isn't there: elements of that size are put in

@@ -22,7 +22,9 @@ pub(crate) fn copy_with_room(
 {
     let bytes = document.as_bytes();
     let mut copy = Vec::with_capacity(alloc, bytes.len().saturating_add(room))?;
-    copy.extend_from_slice(bytes)?;
+    let Ok(()) = copy.extend_from_slice(bytes) else {
+        unreachable!()
+    };
     match RawDocumentBuf::from_bytes(Bytes::from_vec(copy)) {
         Ok(copy) => Ok(copy),
         Err(_) => unreachable!(),

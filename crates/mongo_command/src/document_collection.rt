@@ -115,7 +115,7 @@ impl RawDocumentCollection for RawArrayBuf {
     fn bytes_added(index: usize, document: &RawDocumentBuf) -> Result<usize, Error> {
         match array_entry_size_bytes(index, document.as_bytes().len()) {
             Ok(size) => Ok(size),
-            Err(_) => Err(ErrorKind::InvalidArgument(ArgumentFault::CheckedFailure).into()),
+            Err(_) => unreachable!(),
         }
     }
 

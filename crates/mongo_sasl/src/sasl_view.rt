@@ -1,7 +1,7 @@
 ghost use Rattle.std.specs.Prelude.{◌≡◌, List, Option, IfOk, IfErr, MatchResult};
 ghost use Rattle.mongo_bson.specs.Document.{Element, IsDocument};
 ghost use Rattle.mongo_bson.specs.Value.{IsValue};
-ghost use Rattle.mongo_command.specs.Field.{field_of, Required};
+ghost use Rattle.mongo_command.specs.Field.{field_of, Required, IsFilled};
 ghost use Rattle.mongo_command.specs.Fields.{IsValueOf, Answers, AreFields, HoldsWellFormed};
 ghost use Rattle.mongo_command.specs.Keys.{errmsg_key, ok_key};
 ghost use Rattle.mongo_sasl.specs.Reply.{ReadsValue, ReadsGeneric, IsSaslTable, IsSaslReply, SaslRefused, Succeeded, IsUnsuccessful, IsFailureOf};
@@ -129,6 +129,7 @@ fn failure_of(alloc: Global, fields: &Fields<'_>) -> Error
 
 // The table of a success.
 fn table_of<'b>(response: RawDocument<'b>, fields: &Fields<'b>) -> Result<SaslView<'b>, FieldFault>
+    requires { IsFilled response.bytes.now }
     ensures { (elements : List Element) → IsDocument response.entry.bytes.now elements → AreFields elements fields.now → Answers IsSaslTable elements (read_as sasl_response_of result) }
 {
     let (conversation_kind, conversation_bytes) = conversation_id(response)?;
@@ -144,11 +145,13 @@ fn table_of<'b>(response: RawDocument<'b>, fields: &Fields<'b>) -> Result<SaslVi
 
 // The conversation's id: the kind byte and the bytes of a value of any kind.
 fn conversation_id<'b>(response: RawDocument<'b>) -> Result<(u8, &'b [u8]), FieldFault>
+    requires { IsFilled response.bytes.now }
     ensures { (elements : List Element) → IsDocument response.entry.bytes.now elements → Answers (Required ReadsValue) (field_of conversation_id_key elements) (read_as owned_value_of result) }
 {
-    response
-        .get_bytes(CONVERSATION_ID)?
-        .ok_or(FieldFault::Unreadable)
+    match response.get_bytes(CONVERSATION_ID) {
+        Ok(found) => found.ok_or(FieldFault::Unreadable),
+        Err(_) => unreachable!(),
+    }
 }
 
 // The bytes of a generic binary that has to be there.

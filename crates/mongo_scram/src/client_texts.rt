@@ -41,7 +41,7 @@ pub fn transcript_text(
 ) -> Result<String, AllocError>
     ensures { IfOk result (λ text. string_bytes text ≡ transcript bare.now server_first.now nonce.now) }
 {
-    let others = server_first.len().saturating_add(nonce.len());
+    let others = server_first.len() + nonce.len();
     let mut text = String::with_capacity(alloc, room(bare.len(), others))?;
     text.push_str(bare)?;
     text.push_str(",")?;

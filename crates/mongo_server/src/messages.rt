@@ -18,7 +18,7 @@ pub fn joined_nonce(alloc: Global, nonce: &str, suffix: &str) -> Result<Text, Se
     ensures text { IfOk result (λ text. text ≡ nonce.now ++ suffix.now) }
     ensures refused { IfErr result (λ fault. fault ≡ OutOfMemory) }
 {
-    let mut text = String::with_capacity(alloc, nonce.len().saturating_add(suffix.len()))?;
+    let mut text = String::with_capacity(alloc, nonce.len() + suffix.len())?;
     text.push_str(nonce)?;
     text.push_str(suffix)?;
     Ok(Text::from_string(text))

@@ -161,9 +161,10 @@ fn text_copy(alloc: Global, text: &str) -> Result<Text, ServeSettingsError>
     ensures copied { IfOk result (λ copy. copy ≡ text.now) }
     ensures refused { IfErr result (λ error. error ≡ OutOfMemory) }
 {
-    let mut copy = String::with_capacity(alloc, text.len())?;
-    copy.push_str(text)?;
-    Ok(Text::from_string(copy))
+    match String::from_str(alloc, text) {
+        Ok(copy) => Ok(Text::from_string(copy)),
+        Err(_) => Err(ServeSettingsError::OutOfMemory),
+    }
 }
 
 fn json_in(alloc: Global, text: &[u8]) -> Result<Value, ServeSettingsError>
