@@ -112,7 +112,7 @@ module _ (settings : ServeSettings) (start : StartRequest) (version : ScramVersi
         (x.nonce, same_text start.payload message (open_of x) message_is asked.said ∙ ap open_of of.authentication_is),
       )
 
-  pub none_suits : AllByRecursion (λ other. Suits version message.now other → ⊥) settings.accounts.items → (x : Authentication) → AsksFor settings start x → ⊥
+  pub none_suits : AllByRecursion (λ other. Suits version message.now other → ⊥) settings.accounts → (x : Authentication) → AsksFor settings start x → ⊥
   none_suits none x asked =
       let counts = asked.of_settings.counts in
       all_split (λ other. Suits version message.now other → ⊥) counts.before counts.after asked.of_settings.account (subst (AllByRecursion (λ other. Suits version message.now other → ⊥)) counts.split none) (asked_suits x asked)
@@ -125,7 +125,7 @@ module _ (settings : ServeSettings) (start : StartRequest) (version : ScramVersi
   suits_too a b q one = (one.0 ∙ q.0, (q.1.0, q.1.1 ∙ ap (λ n. open_message n q.1.0) (sym one.1)))
 
   -- so what was found is the first of its user
-  is_first : (account : Account) → IsFound settings.accounts.items version message.now account → IsFirstAccount settings.accounts.items account
+  is_first : (account : Account) → IsFound settings.accounts version message.now account → IsFirstAccount settings.accounts account
   is_first account found = record {
     before = found.before;
     after = found.after;
@@ -133,11 +133,11 @@ module _ (settings : ServeSettings) (start : StartRequest) (version : ScramVersi
     first = all_weaker (λ other. Suits version message.now other → ⊥) (λ other. AreOfOneUser other account → ⊥) found.before (λ other none one. none (suits_too other account found.suits one)) found.others;
   }
 
-  pub starts_by : (account : Account) (suffix : List ℕ) → IsFound settings.accounts.items version message.now account → suffix ≡ settings.suffix
+  pub starts_by : (account : Account) (suffix : List ℕ) → IsFound settings.accounts version message.now account → suffix ≡ settings.suffix
       → (found : Option StartedLogin) → StartsFor account suffix message.now start.skips_empty_exchange found → StartsBy settings start found
   starts_by account suffix is suffix_is None none = λ x asked.
       let of = asked.of_settings in
-      let same : of.account ≡ account = one_first_account settings.accounts.items of.account account of.counts (is_first account is) (of_one_user of.account account (asked_suits x asked) is.suits) in
+      let same : of.account ≡ account = one_first_account settings.accounts of.account account of.counts (is_first account is) (of_one_user of.account account (asked_suits x asked) is.suits) in
       let said : message.now ≡ open_message of.account.name x.nonce = same_text start.payload message (open_of x) message_is asked.said ∙ ap open_of of.authentication_is in
       none x.nonce (record {
         usable = subst (λ (a : Account). (kind : ErrorKind) → PasswordRow a.version a.password kind → ⊥) same of.usable;
@@ -155,7 +155,7 @@ module _ (settings : ServeSettings) (start : StartRequest) (version : ScramVersi
         subst (λ s. BeginsAuthentication (authentication_of account s nonce) start.skips_empty_exchange opened) suffix_is has_begun,
       )
 
-  pub starts_all : (account : Account) (suffix : List ℕ) → IsFound settings.accounts.items version message.now account → suffix ≡ settings.suffix
+  pub starts_all : (account : Account) (suffix : List ℕ) → IsFound settings.accounts version message.now account → suffix ≡ settings.suffix
       → (r : Result (Option StartedLogin) BsonFault) → IfOk r (StartsFor account suffix message.now start.skips_empty_exchange) → IfOk r (StartsBy settings start)
   starts_all account suffix is suffix_is (Ok found) h = starts_by account suffix is suffix_is found h
   starts_all account suffix is suffix_is (Err fault) h = tt

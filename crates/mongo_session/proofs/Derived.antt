@@ -54,28 +54,28 @@ module _ (account : Account) (password : List ℕ) (worded : password ≡ accoun
 -- ---- by the settings
 
 module _ (settings : ServeSettings) (start : StartRequest) (version : ScramVersion) (message : Bor (List ℕ)) (version_is : start.version ≡ Some version) (message_is : start.payload ≡ Some message) where
-  start_finds : (account : Account) → IsFound settings.accounts.items version message.now account → StartFinds settings start account
+  start_finds : (account : Account) → IsFound settings.accounts version message.now account → StartFinds settings start account
   start_finds account found = record {
     message = message.now;
     said = ap option_copied message_is;
     version_is = version_is ∙ ap Some (sym found.suits.0);
-    found = subst (λ v. IsFound settings.accounts.items v message.now account) (sym found.suits.0) found;
+    found = subst (λ v. IsFound settings.accounts v message.now account) (sym found.suits.0) found;
   }
 
   -- what was derived at the account that was found
-  pub start_cost : (account : Account) → IsFound settings.accounts.items version message.now account → (old new : ℕ) (result : Result (Option StartedLogin) BsonFault)
+  pub start_cost : (account : Account) → IsFound settings.accounts version message.now account → (old new : ℕ) (result : Result (Option StartedLogin) BsonFault)
       → OnOk result (CostsRounds (KeyRounds account) old new) → OnOk result (CostsRounds (StartRounds settings start) old new)
   start_cost account found old new (Ok opened) (rounds, derived, steps) = (rounds, inl (account, start_finds account found, derived), steps)
   start_cost account found old new (Err fault) h = tt
 
-  pub start_at_most : (account : Account) → IsFound settings.accounts.items version message.now account → (old new : ℕ) (result : Result (Option StartedLogin) BsonFault)
+  pub start_at_most : (account : Account) → IsFound settings.accounts version message.now account → (old new : ℕ) (result : Result (Option StartedLogin) BsonFault)
       → OnErr result (CostsAtMost (KeyRounds account) old new) → OnErr result (CostsAtMost (StartRounds settings start) old new)
   start_at_most account found old new (Ok opened) h = tt
   start_at_most account found old new (Err fault) (rises, inl none) = (rises, inl none)
   start_at_most account found old new (Err fault) (rises, inr (rounds, derived, most)) = (rises, inr (rounds, inl (account, start_finds account found, derived), most))
 
   -- where no account suits
-  pub none_finds : AllByRecursion (λ other. Suits version message.now other → ⊥) settings.accounts.items → (account : Account) → StartFinds settings start account → ⊥
+  pub none_finds : AllByRecursion (λ other. Suits version message.now other → ⊥) settings.accounts → (account : Account) → StartFinds settings start account → ⊥
   none_finds none account finds =
       let found = finds.found in
       let suits : Suits version message.now account = (sym (same_version version account.version start.version version_is finds.version_is), subst (λ m. NamesUser m account.name) (sym (same_text start.payload message finds.message message_is finds.said)) found.suits.1) in

@@ -34,7 +34,7 @@ AnswersCarried settings old (Some start) new answer = AnswersStart settings star
 pub record AnswersHello (settings : ServeSettings) (old : Session) (hello : HelloRequest) (new : Session) (reply : HelloAnswer) : Type 0 where
   pub user : new.user ≡ old.user
   pub legacy : reply.is_legacy ≡ hello.is_legacy
-  pub mechanisms : AreMechanismsOf settings.accounts.items hello.mechanisms_of reply.mechanisms
+  pub mechanisms : AreMechanismsOf settings.accounts hello.mechanisms_of reply.mechanisms
   pub speculation : AnswersCarried settings old hello.speculation new reply.speculation
 
 abbrev pub IsDescription : ServeSettings → Session → HelloRequest → Session → Reply → Type 0

@@ -25,7 +25,7 @@ pub record StartFinds (settings : ServeSettings) (start : StartRequest) (account
   pub message : List ℕ
   pub said : option_copied start.payload ≡ Some message
   pub version_is : start.version ≡ Some account.version
-  pub found : IsFound settings.accounts.items account.version message account
+  pub found : IsFound settings.accounts account.version message account
 
 -- the key of the account that it finds is derived, and nothing where it finds none
 abbrev pub StartRounds : ServeSettings → StartRequest → ℕ → Type 0

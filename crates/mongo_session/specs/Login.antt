@@ -19,7 +19,7 @@ authentication_of account suffix nonce = record { version = account.version; use
 -- An authentication of the settings: of an account that counts, whose password its mechanism takes.
 pub record IsAuthentication (settings : ServeSettings) (x : Authentication) : Type 0 where
   pub account : Account
-  pub counts : IsFirstAccount settings.accounts.items account
+  pub counts : IsFirstAccount settings.accounts account
   pub usable : (kind : ErrorKind) → PasswordRow account.version account.password kind → ⊥
   pub printable : IsNonce x.nonce
   pub authentication_is : x ≡ authentication_of account settings.suffix x.nonce

@@ -141,7 +141,7 @@ abbrev pub account_values : Account → AccountValues
 account_values account = record { name = account.name; password = account.password; version = account.version; salt = account.salt; count = account.count }
 
 abbrev pub settings_values : ServeSettings → ServeSettingsValues
-settings_values settings = record { accounts = map account_values settings.accounts.items; suffix = settings.suffix }
+settings_values settings = record { accounts = map account_values settings.accounts; suffix = settings.suffix }
 
 -- accounts that have those that are said at their end
 abbrev pub HaveAtEnd : Option (List AccountValues) → List Account → List Account → Type 0

@@ -42,5 +42,5 @@ pub use reply_document::document_of_reply;
 pub use request::{
     ContinueRequest, Hello, Request, StartRequest, command_name, inner_document, request_of,
 };
-pub use serve_settings::{Account, ServeSettings, ServeSettingsError, serve_settings_of};
+pub use serve_settings::{Account, Accounts, ServeSettings, ServeSettingsError, serve_settings_of};
 pub use session::{PendingLogin, Session};

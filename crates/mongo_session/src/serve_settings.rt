@@ -6,7 +6,7 @@ ghost use Rattle.mongo_server.specs.ClientMessages.{IsNonce};
 
 mod reading;
 
-use mongo_bson::{Bytes, Text};
+use mongo_bson::{Bytes, Items, Text};
 use mongo_scram::ScramVersion;
 pub use reading::{ServeSettingsError, serve_settings_of};
 
@@ -27,11 +27,14 @@ pub struct Account {
     pub ghost enough: { least_count ≤ count },
 }
 
+/// Accounts, in the order of the text that says them.
+pub type Accounts = Items<Account>;
+
 /// Who may log in, and what the server adds to a client's nonce.
 #[derive(Drop)]
 pub struct ServeSettings {
     /// The users in the order of the text, once for each mechanism of theirs.
-    pub accounts: Vec<Account>,
+    pub accounts: Accounts,
     /// What is put behind a client's nonce: printable ASCII without a comma.
     pub suffix: Text,
     pub ghost printable: { IsNonce suffix },

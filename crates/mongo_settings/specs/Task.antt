@@ -23,7 +23,7 @@ pub data Asks : Type 0 where
 
 abbrev pub asks_of : Logins → Asks
 asks_of (One settings) = one settings
-asks_of (Many logins) = many logins.items
+asks_of (Many logins) = many logins
 
 -- what a text asks for as this task, or why it asks for nothing
 unfoldable pub judged_as : Task → List ℕ → Result Asks SettingsError

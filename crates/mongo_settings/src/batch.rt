@@ -9,6 +9,7 @@ ghost use Rattle.mongo_settings.specs.Task.{ReportsMany, steps_of};
 use crate::rehearsal::{Rehearsal, RehearsalStatus, rehearse_with};
 use crate::report::line::{begin_line, end_line, push_number};
 use crate::settings::Settings;
+use mongo_bson::Items;
 use mongo_establish::LoginState;
 use mongo_mac::Steps;
 use std::alloc::{AllocError, Global};
@@ -18,12 +19,12 @@ use std::sync::ledger::Ledger;
 /// at the end how many rounds of Hi they derived. It is accepted where each of them is.
 pub fn rehearse_all<G: Ledger>(
     alloc: Global,
-    logins: Vec<Settings>,
+    logins: Items<Settings>,
     steps: &mut Steps<G>,
 ) -> Result<Rehearsal, AllocError>
-    requires spoken { All IsLoginSpoken logins.items }
+    requires spoken { All IsLoginSpoken logins }
     // The reports are those of the logins alone, and each key was derived once until a login with it was accepted.
-    ensures batch { IfOk result (λ rehearsal. ReportsMany logins.items (steps_of steps.old steps.new) rehearsal.status rehearsal.report.items) }
+    ensures batch { IfOk result (λ rehearsal. ReportsMany logins (steps_of steps.old steps.new) rehearsal.status rehearsal.report.items) }
     ensures steps { steps.old ≤ steps.new }
 {
     let mut state = LoginState::new(alloc);
@@ -31,7 +32,7 @@ pub fn rehearse_all<G: Ledger>(
         status: RehearsalStatus::Accepted,
         report: Vec::new(alloc),
     };
-    for settings in logins {
+    for settings in logins.into_vec() {
         rehearse_next(alloc, settings, &mut state, &mut batch, steps)?;
     }
     push_rounds(&mut batch.report, state.salted.rounds())?;

@@ -5,6 +5,7 @@ ghost use Rattle.mongo_settings.specs.Settings.{Gives};
 use crate::batch::rehearse_all;
 use crate::rehearsal::{Rehearsal, rehearse};
 use crate::settings::{Settings, SettingsError, read_logins, read_settings};
+use mongo_bson::Items;
 use mongo_mac::Steps;
 use std::alloc::{AllocError, Global};
 use std::sync::ledger::Ledger;
@@ -24,7 +25,7 @@ pub enum Logins {
     /// One.
     One(Settings),
     /// Those of a batch, in their order.
-    Many(Vec<Settings>),
+    Many(Items<Settings>),
 }
 
 impl Logins {

@@ -9,21 +9,22 @@
 //! A user has a salt for each of its mechanisms, in hex, and one iteration count, 4096 to 4294967295. `nonce` is what the server
 //! adds to a client's nonce: printable ASCII without a comma, and at least one character.
 
-ghost use Rattle.std.specs.Prelude.{◌≡◌, ◌≤◌, [], ◌∷◌, ◌++◌, map, IfSome, IfOk, IfErr, OnOk, IsTrue};
+ghost use Rattle.std.specs.Prelude.{◌≡◌, ◌≤◌, map, IfSome, IfOk, IfErr, OnOk, IsTrue};
 ghost use Rattle.serde_json.specs.View.{view, items_view};
 ghost use Rattle.mongo_scram.specs.Validity.{least_count};
 ghost use Rattle.mongo_server.specs.ClientMessages.{IsNonce};
 ghost use Rattle.mongo_session.specs.ServeSettings.{text_under, items_in, count_in, scram_version_in, salt_in, is_suffix, suffix_in, json_in, account_values, account_in, accounts_of_user, accounts_of, settings_values, settings_meant, HaveAtEnd, AnswersMeaning, HasNoMeaning};
 ghost use Rattle.mongo_session.specs.declared.serve_settings.reading.ServeSettingsError.TheVariants.{OutOfMemory};
+ghost use Rattle.mongo_bson.specs.declared.fault.BsonFault.TheVariants.{OutOfMemory as WantOfMemory};
 
-use super::{Account, ServeSettings};
+use super::{Account, Accounts, ServeSettings};
 use crate::request::version_named;
 use hex::FromHexError;
-use mongo_bson::{Bytes, Text};
+use mongo_bson::{BsonFault, Bytes, Text};
 use mongo_scram::{MIN_ITERATION_COUNT, ScramVersion};
 use mongo_server::is_nonce;
 use serde_json::{Category, Value};
-use std::alloc::{AllocError, AllocFailed, Global};
+use std::alloc::Global;
 
 /// Why a text is no settings.
 #[derive(Clone, Copy, Debug, PartialEq, Eq)]
@@ -34,19 +35,14 @@ pub enum ServeSettingsError {
     OutOfMemory,
 }
 
-impl From<AllocError> for ServeSettingsError {
-    ghost from_gives = { λ _ error. error ≡ OutOfMemory };
+impl From<BsonFault> for ServeSettingsError {
+    ghost from_gives = { λ fault error. fault ≡ WantOfMemory → error ≡ OutOfMemory };
 
-    fn from(_error: AllocError) -> ServeSettingsError {
-        ServeSettingsError::OutOfMemory
-    }
-}
-
-impl<T: Drop> From<AllocFailed<T>> for ServeSettingsError {
-    ghost from_gives = { λ _ error. error ≡ OutOfMemory };
-
-    fn from(_error: AllocFailed<T>) -> ServeSettingsError {
-        ServeSettingsError::OutOfMemory
+    fn from(fault: BsonFault) -> ServeSettingsError {
+        match fault {
+            BsonFault::OutOfMemory => ServeSettingsError::OutOfMemory,
+            _ => ServeSettingsError::BadSettings,
+        }
     }
 }
 
@@ -66,7 +62,7 @@ pub fn serve_settings_of(alloc: Global, text: &[u8]) -> Result<ServeSettings, Se
     let accounts = accounts_of(alloc, users)?;
     Ok(ServeSettings {
         accounts,
-        suffix: text_copy(alloc, suffix)?,
+        suffix: Text::from_slice(alloc, suffix)?,
     })
 }
 
@@ -92,10 +88,10 @@ fn is_suffix(nonce: &str) -> bool
 }
 
 // The accounts of users, one after another.
-fn accounts_of(alloc: Global, users: &[Value]) -> Result<Vec<Account>, ServeSettingsError>
-    ensures { AnswersMeaning (λ accounts. map account_values accounts.items) result (accounts_of (items_view users.now)) }
+fn accounts_of(alloc: Global, users: &[Value]) -> Result<Accounts, ServeSettingsError>
+    ensures { AnswersMeaning (λ accounts. map account_values accounts) result (accounts_of (items_view users.now)) }
 {
-    let mut accounts = Vec::new(alloc);
+    let mut accounts = Accounts::new(alloc);
     'users: for user in users {
         push_accounts(alloc, &mut accounts, user)?;
     }
@@ -106,10 +102,10 @@ fn accounts_of(alloc: Global, users: &[Value]) -> Result<Vec<Account>, ServeSett
 #[tactic(auto, unfolding(crate::specs::ServeSettings::accounts_of_user))]
 fn push_accounts(
     alloc: Global,
-    accounts: &mut Vec<Account>,
+    accounts: &mut Accounts,
     user: &Value,
 ) -> Result<(), ServeSettingsError>
-    ensures added { OnOk result (HaveAtEnd (accounts_of_user (view user.now)) accounts.old.items accounts.new.items) }
+    ensures added { OnOk result (HaveAtEnd (accounts_of_user (view user.now)) accounts.old accounts.new) }
     ensures refused { IfErr result (λ error. HasNoMeaning error (accounts_of_user (view user.now))) }
 {
     let mechanisms = items_in(user, "mechanisms")?;
@@ -119,16 +115,8 @@ fn push_accounts(
     }
     'pairs: for at in 0..mechanisms.len() {
         let account = account_of(alloc, user, &mechanisms[at], &salts[at])?;
-        push(accounts, account)?;
+        accounts.push(account)?;
     }
-    Ok(())
-}
-
-fn push(accounts: &mut Vec<Account>, account: Account) -> Result<(), ServeSettingsError>
-    ensures pushed { OnOk result (accounts.new.items ≡ accounts.old.items ++ account ∷ []) }
-    ensures refused { IfErr result (λ error. error ≡ OutOfMemory) }
-{
-    accounts.push(account)?;
     Ok(())
 }
 
@@ -148,23 +136,12 @@ fn account_of(
         return Err(ServeSettingsError::BadSettings);
     };
     Ok(Account {
-        name: text_copy(alloc, name)?,
-        password: text_copy(alloc, password)?,
+        name: Text::from_slice(alloc, name)?,
+        password: Text::from_slice(alloc, password)?,
         version: version_of(mechanism)?,
         salt: salt_of(alloc, salt)?,
         count,
     })
-}
-
-// A copy of a text.
-fn text_copy(alloc: Global, text: &str) -> Result<Text, ServeSettingsError>
-    ensures copied { IfOk result (λ copy. copy ≡ text.now) }
-    ensures refused { IfErr result (λ error. error ≡ OutOfMemory) }
-{
-    match String::from_str(alloc, text) {
-        Ok(copy) => Ok(Text::from_string(copy)),
-        Err(_) => Err(ServeSettingsError::OutOfMemory),
-    }
 }
 
 fn json_in(alloc: Global, text: &[u8]) -> Result<Value, ServeSettingsError>

@@ -1,13 +1,13 @@
 //! The logins of a batch.
-ghost use Rattle.std.specs.Prelude.{◌≡◌, ◌++◌, [], ◌∷◌, All, IfOk, IfErr, OnOk};
+ghost use Rattle.std.specs.Prelude.{All, IfOk};
 ghost use Rattle.serde_json.specs.View.{items_view};
 ghost use Rattle.mongo_settings.specs.Settings.{Gives};
 ghost use Rattle.mongo_settings.specs.Logins.{each_settings, logins_of, logins_judged};
 ghost use Rattle.mongo_settings.specs.Batch.{IsLoginSpoken};
-ghost use Rattle.mongo_settings.specs.declared.settings.SettingsError.TheVariants.{OutOfMemory};
 
 use crate::settings::reading::judge_object;
 use crate::settings::{Settings, SettingsError, keys, settings_of, value_judged};
+use mongo_bson::Items;
 use serde_json::Value;
 use std::alloc::Global;
 
@@ -16,9 +16,9 @@ use std::alloc::Global;
 /// Refusals, in this order: `BadSettings` where the text is longer than 4194304 bytes, isn't JSON, holds a float, or is no
 /// such object; those of [`settings_of`] for each of the array's values in turn.
 #[tactic(auto, unfolding(crate::specs::Logins::logins_judged, crate::specs::Logins::logins_of))]
-pub fn read_logins(alloc: Global, text: &[u8]) -> Result<Vec<Settings>, SettingsError>
-    ensures logins { Gives (λ logins. logins.items) result (logins_judged text.now) }
-    ensures spoken { IfOk result (λ logins. All IsLoginSpoken logins.items) }
+pub fn read_logins(alloc: Global, text: &[u8]) -> Result<Items<Settings>, SettingsError>
+    ensures logins { Gives (λ logins. logins) result (logins_judged text.now) }
+    ensures spoken { IfOk result (λ logins. All IsLoginSpoken logins) }
 {
     let value = value_judged(alloc, text)?;
     judge_object(&value, &keys::BATCH_KEYS)?;
@@ -32,25 +32,14 @@ pub fn read_logins(alloc: Global, text: &[u8]) -> Result<Vec<Settings>, Settings
 }
 
 // The settings that the values are, one after another.
-fn each_settings(alloc: Global, values: &[Value]) -> Result<Vec<Settings>, SettingsError>
-    ensures settings { Gives (λ logins. logins.items) result (each_settings (items_view values.now)) }
-    ensures spoken { IfOk result (λ logins. All IsLoginSpoken logins.items) }
+fn each_settings(alloc: Global, values: &[Value]) -> Result<Items<Settings>, SettingsError>
+    ensures settings { Gives (λ logins. logins) result (each_settings (items_view values.now)) }
+    ensures spoken { IfOk result (λ logins. All IsLoginSpoken logins) }
 {
-    let mut logins = Vec::new(alloc);
+    let mut logins = Items::new(alloc);
     for value in values {
         let settings = settings_of(alloc, value)?;
-        push(&mut logins, settings)?;
+        logins.push(settings)?;
     }
     Ok(logins)
-}
-
-// Over any type, so that its proof doesn't walk through the parts of settings.
-fn push<T: Drop>(list: &mut Vec<T>, item: T) -> Result<(), SettingsError>
-    ensures pushed { OnOk result (list.new.items ≡ list.old.items ++ item ∷ []) }
-    ensures refused { IfErr result (λ e. e ≡ OutOfMemory) }
-{
-    match list.push(item) {
-        Ok(()) => Ok(()),
-        Err(_) => Err(SettingsError::OutOfMemory),
-    }
 }

@@ -13,8 +13,8 @@ returns-in-Some-clause-opened g c =
     let version = c.in-Some-Some.version in
     let message = c.in-Some-Some.payload in
     let account = c.in-Some.account in
-    let found : FindsAccount settings.accounts.items version message.now (Some account) =
-    subst (λ accounts. FindsAccount accounts version message.now (Some account)) c.as_slice.ensures.value (rw c.in-Some.is at c.in_ok-account.ensures) in
+    let found : FindsAccount settings.accounts version message.now (Some account) =
+    subst (λ accounts. FindsAccount accounts version message.now (Some account)) c.as_slice.ensures (rw c.in-Some.is at c.in_ok-account.ensures) in
     starts_all settings start version message c.in-Some-Some.is-0 c.in-Some-Some.is-1 account.now c.as_str.result.now found c.as_str.ensures c.start_for.result c.start_for.ensures.opened
 
 pub returns-in-None-clause-opened : goal.returns-in-None-clause-opened
@@ -23,8 +23,8 @@ returns-in-None-clause-opened g c =
     let version = c.in-Some-Some.version in
     let message = c.in-Some-Some.payload in
     let none : Option (Bor Account) = None in
-    let found : FindsAccount settings.accounts.items version message.now none =
-    subst (λ accounts. FindsAccount accounts version message.now none) c.as_slice.ensures.value (rw c.in-None.is at c.in_ok-account.ensures) in
+    let found : FindsAccount settings.accounts version message.now none =
+    subst (λ accounts. FindsAccount accounts version message.now none) c.as_slice.ensures (rw c.in-None.is at c.in_ok-account.ensures) in
     none_suits settings c.args.start version message c.in-Some-Some.is-0 c.in-Some-Some.is-1 found
 
 pub returns-in_default-clause-opened : goal.returns-in_default-clause-opened
@@ -37,8 +37,8 @@ returns-in-Some-clause-cost g c =
     let version = c.in-Some-Some.version in
     let message = c.in-Some-Some.payload in
     let account = c.in-Some.account in
-    let found : FindsAccount settings.accounts.items version message.now (Some account) =
-    subst (λ accounts. FindsAccount accounts version message.now (Some account)) c.as_slice.ensures.value (rw c.in-Some.is at c.in_ok-account.ensures) in
+    let found : FindsAccount settings.accounts version message.now (Some account) =
+    subst (λ accounts. FindsAccount accounts version message.now (Some account)) c.as_slice.ensures (rw c.in-Some.is at c.in_ok-account.ensures) in
     start_cost settings start version message c.in-Some-Some.is-0 c.in-Some-Some.is-1 account.now found c.args.steps.now c.start_for.new.steps c.start_for.result c.start_for.ensures.cost
 
 pub returns-in-Some-clause-at_most : goal.returns-in-Some-clause-at_most
@@ -48,8 +48,8 @@ returns-in-Some-clause-at_most g c =
     let version = c.in-Some-Some.version in
     let message = c.in-Some-Some.payload in
     let account = c.in-Some.account in
-    let found : FindsAccount settings.accounts.items version message.now (Some account) =
-    subst (λ accounts. FindsAccount accounts version message.now (Some account)) c.as_slice.ensures.value (rw c.in-Some.is at c.in_ok-account.ensures) in
+    let found : FindsAccount settings.accounts version message.now (Some account) =
+    subst (λ accounts. FindsAccount accounts version message.now (Some account)) c.as_slice.ensures (rw c.in-Some.is at c.in_ok-account.ensures) in
     start_at_most settings start version message c.in-Some-Some.is-0 c.in-Some-Some.is-1 account.now found c.args.steps.now c.start_for.new.steps c.start_for.result c.start_for.ensures.at_most
 
 pub returns-in-None-clause-cost : goal.returns-in-None-clause-cost
@@ -58,8 +58,8 @@ returns-in-None-clause-cost g c =
     let version = c.in-Some-Some.version in
     let message = c.in-Some-Some.payload in
     let none : Option (Bor Account) = None in
-    let found : FindsAccount settings.accounts.items version message.now none =
-    subst (λ accounts. FindsAccount accounts version message.now none) c.as_slice.ensures.value (rw c.in-None.is at c.in_ok-account.ensures) in
+    let found : FindsAccount settings.accounts version message.now none =
+    subst (λ accounts. FindsAccount accounts version message.now none) c.as_slice.ensures (rw c.in-None.is at c.in_ok-account.ensures) in
     no_rounds settings c.args.start c.args.steps.now (none_finds settings c.args.start version message c.in-Some-Some.is-0 c.in-Some-Some.is-1 found)
 
 pub returns-in_default-clause-cost : goal.returns-in_default-clause-cost

@@ -16,7 +16,8 @@ loop-settings-init g c =
 pub rehearse_next-requires : goal.rehearse_next-requires
 rehearse_next-requires g c =
     let b = c.into_iter-settings-iterator.ensures.into_iter_gives in
-    let all = YieldsList-from_vec {s = c.into_iter-settings-iterator.result} c.args.logins.items b.0 (b.1 ∙ c.args.logins.ok.0) in
+    let e = c.into_vec-settings-items.ensures in
+    let all = YieldsList-from_vec {s = c.into_iter-settings-iterator.result} c.args.logins (b.0 ∙ e) (b.1 ∙ c.into_vec-settings-items.result.ok.0 ∙ ap length e) in
     let turn = YieldsList-turn all c.loop-settings.yielded c.loop-settings.settings-iterator c.loop-settings.yielded_by c.next.result c.next.new.self c.in-Some.settings c.in-Some.is c.next.ensures.steps in
     record { spoken = subst IsLoginSpoken (sym turn.1) (c.requires.spoken (length c.loop-settings.yielded) c.in-Some.settings turn.0) }
 
@@ -29,9 +30,10 @@ loop-settings-preserved g c = record {
 pub returns-clause-batch : goal.returns-clause-batch
 returns-clause-batch g c =
     let b = c.into_iter-settings-iterator.ensures.into_iter_gives in
-    let all = YieldsList-from_vec {s = c.into_iter-settings-iterator.result} c.args.logins.items b.0 (b.1 ∙ c.args.logins.ok.0) in
+    let e = c.into_vec-settings-items.ensures in
+    let all = YieldsList-from_vec {s = c.into_iter-settings-iterator.result} c.args.logins (b.0 ∙ e) (b.1 ∙ c.into_vec-settings-items.result.ok.0 ∙ ap length e) in
     let end = YieldsList-end all c.loop-settings.yielded c.loop-settings.settings-iterator c.loop-settings.yielded_by c.next.result c.next.new.self c.in-None.is c.next.ensures.steps in
     let now = ledgers c.loop-settings.steps c.loop-settings.state.salted in
-    shared_report c.args.steps.now c.args.logins.items c.loop-settings.batch now c.push_rounds.new.out.items
+    shared_report c.args.steps.now c.args.logins c.loop-settings.batch now c.push_rounds.new.out.items
     (subst (λ front. Shared c.args.steps.now front c.loop-settings.batch now) (sym (map-id c.loop-settings.yielded) ∙ end.0) c.loop-settings.invariant.shared)
     (c.in_ok-push_rounds.ensures ∙ ap (λ n. c.loop-settings.batch.report.items ++ rounds_line n) c.rounds.ensures)

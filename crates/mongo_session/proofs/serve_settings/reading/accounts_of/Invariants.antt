@@ -6,4 +6,4 @@ use Rattle.mongo_session.proofs.serve_settings.reading.accounts_of.Given as goal
 
 -- the accounts so far and those of the users that are left are all
 abbrev pub invariant-users : goal.invariant-users
-invariant-users l = ReadTo [] (accounts_of (items_view l.users)) l.accounts.items (accounts_of (items_view (drop l.user-index l.users)))
+invariant-users l = ReadTo [] (accounts_of (items_view l.users)) l.accounts (accounts_of (items_view (drop l.user-index l.users)))

@@ -19,7 +19,7 @@ returns-in_err-account-clause-refused c =
     let salts = c.in_ok-salts.salts.now in
     let within : c.pairs.at < length salts = omega arith in
     rw (p.1, p.2, c.in_ok-mechanisms.ensures, c.in_ok-salts.ensures)
-    (pair_stopped c.in_err-account.field-0.0 user mechanisms salts c.pairs.at c.index-mechanisms-at.result c.index-salts-at.result c.args.accounts.now.items c.pairs.accounts.items (accounts_by user (items_view mechanisms) (items_view salts))
+    (pair_stopped c.in_err-account.field-0.0 user mechanisms salts c.pairs.at c.index-mechanisms-at.result c.index-salts-at.result c.args.accounts.now c.pairs.accounts (accounts_by user (items_view mechanisms) (items_view salts))
     c.pairs-test.true within c.index-mechanisms-at.is c.index-salts-at.is c.pairs.invariant c.in_err-account.ensures)
 
 pub pairs-preserved : goal.pairs-preserved
@@ -29,8 +29,8 @@ pairs-preserved c =
     let salts = c.in_ok-salts.salts.now in
     let all = accounts_by user (items_view mechanisms) (items_view salts) in
     let within : c.pairs.at < length salts = omega arith in
-    subst (λ accounts. ReadTo c.args.accounts.now.items all accounts (by_from user mechanisms salts (c.pairs.at + 1))) (sym c.in_ok-push.ensures.pushed)
-    (pair_more user mechanisms salts c.pairs.at c.index-mechanisms-at.result c.index-salts-at.result c.args.accounts.now.items c.pairs.accounts.items c.in_ok-account.account all
+    subst (λ accounts. ReadTo c.args.accounts.now all accounts (by_from user mechanisms salts (c.pairs.at + 1))) (sym c.in_ok-push.ensures.added)
+    (pair_more user mechanisms salts c.pairs.at c.index-mechanisms-at.result c.index-salts-at.result c.args.accounts.now c.pairs.accounts c.in_ok-account.account all
     c.pairs-test.true within c.index-mechanisms-at.is c.index-salts-at.is c.pairs.invariant c.in_ok-account.ensures)
 
 pub returns-clause-added : goal.returns-clause-added
@@ -41,5 +41,5 @@ returns-clause-added c =
     let salts = c.in_ok-salts.salts.now in
     let past : length salts ≤ c.pairs.at = omega arith in
     rw (c.in_ok-mechanisms.ensures, c.in_ok-salts.ensures)
-    (pairs_ended user mechanisms salts c.pairs.at c.args.accounts.now.items c.pairs.accounts.items (accounts_by user (items_view mechanisms) (items_view salts))
+    (pairs_ended user mechanisms salts c.pairs.at c.args.accounts.now c.pairs.accounts (accounts_by user (items_view mechanisms) (items_view salts))
     (drop_of_length-le mechanisms c.pairs-test.false) (drop_of_length-le salts past) c.pairs.invariant)

@@ -8,4 +8,4 @@ use Rattle.mongo_session.proofs.serve_settings.reading.push_accounts.Given as go
 abbrev pub invariant-pairs : goal.invariant-pairs
 invariant-pairs l =
     let user = view l.user in
-    ReadTo l.fn.accounts.items (accounts_by user (items_view l.mechanisms) (items_view l.salts)) l.accounts.items (accounts_by user (items_view (drop l.at l.mechanisms)) (items_view (drop l.at l.salts)))
+    ReadTo l.fn.accounts (accounts_by user (items_view l.mechanisms) (items_view l.salts)) l.accounts (accounts_by user (items_view (drop l.at l.mechanisms)) (items_view (drop l.at l.salts)))

@@ -5,6 +5,6 @@ use Rattle.mongo_settings.proofs.settings.logins.each_settings.Given as goal
 
 abbrev pub invariant-loop-value : goal.invariant-loop-value
 invariant-loop-value l = record {
-  read : ReadTo l.values l.value-index l.logins.items;
-  spoken : All IsLoginSpoken l.logins.items;
+  read : ReadTo l.values l.value-index l.logins;
+  spoken : All IsLoginSpoken l.logins;
 }
