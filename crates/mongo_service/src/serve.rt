@@ -19,7 +19,9 @@ use crate::respond::{respond, respond_to_query};
 use mongo_bson::{RawDocument, Text};
 use mongo_mac::Steps;
 use mongo_server::MAXIMUM_MESSAGE_LENGTH;
-use mongo_session::{Reply, Request, ServeSettings, Session, answer_request, answer_hello, request_of};
+use mongo_session::{
+    Reply, Request, ServeSettings, Session, answer_hello, answer_request, request_of,
+};
 use mongo_wire::{FrameBuffer, Header, Link, OpCode, RequestIds, fill_or_end};
 use std::alloc::Global;
 use std::sync::ledger::Ledger;

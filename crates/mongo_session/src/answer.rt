@@ -37,7 +37,9 @@ pub fn answer_request<G: Ledger>(
     ensures at_most { OnErr result (CostsAtMost (RequestRounds settings.now request.entry) steps.old steps.new) }
 {
     match request {
-        Request::Hello(hello) => Ok(Reply::Hello(answer_hello(alloc, settings, session, hello, steps)?)),
+        Request::Hello(hello) => Ok(Reply::Hello(answer_hello(
+            alloc, settings, session, hello, steps,
+        )?)),
         Request::SaslStart(start) => Ok(login_reply(session.start(alloc, settings, start, steps)?)),
         Request::SaslContinue(next) => Ok(login_reply(session.go_on(alloc, next)?)),
         Request::Ping => Ok(guarded(session, Reply::Done)),

@@ -29,14 +29,14 @@
 mod answer;
 mod command_names;
 mod hello_document;
-mod start;
 mod reply;
 mod reply_document;
 mod request;
 mod serve_settings;
 mod session;
+mod start;
 
-pub use answer::{answer_request, answer_hello};
+pub use answer::{answer_hello, answer_request};
 pub use reply::{HelloAnswer, Mechanisms, RefusedCommand, Reply, SaslReply};
 pub use reply_document::document_of_reply;
 pub use request::{

@@ -1,9 +1,9 @@
 //! A client's session: who is logged in, and the login that goes on.
 
-use crate::start::start_login;
 use crate::reply::SaslReply;
 use crate::request::{ContinueRequest, StartRequest};
 use crate::serve_settings::ServeSettings;
+use crate::start::start_login;
 use mongo_bson::{BsonFault, Text};
 use mongo_mac::Steps;
 use mongo_server::{ServerCore, ServerFault};

@@ -13,9 +13,9 @@ use crate::settings::Settings;
 pub use login::{PreparedLogin, connect, prepare};
 use mongo_establish::{LoginState, MemoryLink};
 use mongo_mac::Steps;
+pub use reporting::report_outcome;
 use std::alloc::{AllocError, Global};
 use std::sync::ledger::Ledger;
-pub use reporting::report_outcome;
 
 /// How a rehearsal came out.
 #[derive(Clone, Copy, Debug, PartialEq, Eq)]
