@@ -27,7 +27,7 @@ use Rattle.mongo_service.specs.Sent.{WriteCause}
 use Rattle.mongo_session.specs.Requests.{IsHello}
 use Rattle.mongo_service.specs.Served.{HasCauseAfter, Lasts}
 use Rattle.mongo_service.specs.Taken.{IsQuery}
-use Rattle.mongo_service.specs.Turns.{ServerTurn}
+use Rattle.mongo_service.specs.ServedRequests.{ServedRequest}
 use Rattle.mongo_service.proofs.Lasts.{counted_after, end_after, lasts_unstopped}
 use Rattle.mongo_service.proofs.NoRequest.{ended_within, IsShort, no_message, unfinished, untold_zeros, untold_zeros_begin_none}
 
@@ -179,7 +179,7 @@ document_cause too_long document fault old long is = absurd is
 pub long_cause : (too_long : Type 0) (fault : ServeFault) (old new : State) → WriteCause too_long fault old new → Some fault ≡ Some ReplyTooLong → too_long
 long_cause too_long fault old new cause is = let same : fault ≡ ReplyTooLong = cc in (subst (λ f. WriteCause too_long f old new) same cause).0
 
-pub write_cause : (too_long : Type 0) (fault : ServeFault) (old mid new : State) (cut : List ServerTurn) → length cut ≡ 1 → Lasts old mid → WriteCause too_long fault mid new → HasCause fault old new cut []
+pub write_cause : (too_long : Type 0) (fault : ServeFault) (old mid new : State) (cut : List ServedRequest) → length cut ≡ 1 → Lasts old mid → WriteCause too_long fault mid new → HasCause fault old new cut []
 write_cause too_long WriteFault old mid new cut one lasts w = (one, refl)
 write_cause too_long ReplyTooLong old mid new cut one lasts w = (one, refl)
 write_cause too_long OutOfMemory old mid new cut one lasts w = inr refl
@@ -191,9 +191,9 @@ write_counted too_long ReplyTooLong old mid new lasts on w = counted_after Reply
 write_counted too_long OutOfMemory old mid new lasts on w = counted_after OutOfMemory old mid new lasts (record { reads = on.unread.reads; ends = on.unread.ends }, w)
 write_counted too_long fault old mid new lasts on w = absurd w
 
--- ---- after the turns before
+-- ---- after the requests before
 
-pub cause_after : (fault : ServeFault) (count : ℕ) (old mid new : State) (taken : List ℕ) (cut : List ServerTurn) (more : List ℕ) → Lasts old mid → Consumes old.left mid.left taken → HasCause fault mid new cut more → HasCauseAfter fault count old new cut more
+pub cause_after : (fault : ServeFault) (count : ℕ) (old mid new : State) (taken : List ℕ) (cut : List ServedRequest) (more : List ℕ) → Lasts old mid → Consumes old.left mid.left taken → HasCause fault mid new cut more → HasCauseAfter fault count old new cut more
 cause_after ReadFault count old mid new taken cut more lasts before c = c
 cause_after WriteFault count old mid new taken cut more lasts before c = c
 cause_after CutFrame count old mid new taken cut more lasts before c = (c.0, c.1, told_some old.left mid.left taken more before c.2, c.3)

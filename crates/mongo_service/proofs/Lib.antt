@@ -7,6 +7,6 @@ pub mod Parts
 pub mod Queried
 pub mod Ran
 pub mod Responses
+pub mod ServedRequests
 pub mod Spent
 pub mod Stream
-pub mod Turns

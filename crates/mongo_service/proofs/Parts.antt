@@ -1,4 +1,4 @@
--- What a turn comes to, by what its parts answer.
+-- What a request comes to, by what its parts answer.
 use Rattle.std.proofs.Common.{◌≡◌, ℕ, ℤ, pos, ◌+◌, ◌≤◌, ◌<◌, Option, None, Some, IfSome, Result, Ok, Err, OnOk, OnErr, IfErr, List, [], ◌∷◌, ◌++◌, length, take, refl, sym, ap, ◌∙◌, subst, inl, inr, arith, length-append}
 use Rattle.std.proofs.lemmas.List.{take_at}
 use Rattle.std.proofs.KnownBytes.{Appends-nil, Consumes-trans}
@@ -26,7 +26,7 @@ use Rattle.mongo_service.specs.Spent.{SpendsRounds}
 use Rattle.mongo_service.specs.Taken.{IsQuery, IsQueryBody}
 use Rattle.mongo_wire.proofs.OneFrame.{signed_in}
 use Rattle.mongo_service.proofs.Causes.{long_cause}
-use Rattle.mongo_service.proofs.Turns.{turn_taken, turn_cut, none_taken}
+use Rattle.mongo_service.proofs.ServedRequests.{request_taken, request_cut, none_taken}
 
 -- how much of a reply was sent: nothing of one that is too long
 abbrev part_of : ServeFault → ℕ → ℕ
@@ -47,7 +47,7 @@ pub message_part : (settings : ServeSettings) (requests : List (List ℕ)) (old 
     → PartEnds settings requests old new first last before id after later r
 message_part settings requests old mid new first last before id after later frame parts document is_frame body_is consumed unwritten lasts on reply answered cost remembers to to_is flags flags_are (Ok done) still h cut cause =
     let answer : IsAnswerTo parts.request_id parts.flags reply id later h.sent = subst (λ f. IsAnswerTo parts.request_id f reply id later h.sent) flags_are (subst (λ t. IsAnswerTo t flags reply id later h.sent) to_is h.is_answer) in
-    turn_taken settings requests old mid new first last before id after later (record { frame = frame; document = document; sent = h.sent }) (inl (parts, is_frame, body_is)) consumed unwritten lasts still on h.appended h.flushed
+    request_taken settings requests old mid new first last before id after later (record { frame = frame; document = document; sent = h.sent }) (inl (parts, is_frame, body_is)) consumed unwritten lasts still on h.appended h.flushed
     (record { reply = reply; answered = answered; sent = inl (record { parts = parts; is_frame = is_frame; body_is = body_is; answer = answer }) })
     remembers cost
 message_part settings requests old mid new first last before id after later frame parts document is_frame body_is consumed unwritten lasts on reply answered cost remembers to to_is flags flags_are (Err fault) still h cut cause =
@@ -56,7 +56,7 @@ message_part settings requests old mid new first last before id after later fram
     let bytes = message_reply id to reply_bytes in
     let front = appends_part (IsLongMessage reply_bytes) fault cut.front.0 bytes mid new cut.front.1 cause in
     let sent = take n bytes in
-    turn_cut (IsLongMessage reply_bytes) settings requests old mid new first last before id after.user fault (record { frame = frame; document = document; sent = sent })
+    request_cut (IsLongMessage reply_bytes) settings requests old mid new first last before id after.user fault (record { frame = frame; document = document; sent = sent })
     (record {
       is_taken = inl (parts, is_frame, body_is);
       after = after;
@@ -83,7 +83,7 @@ pub query_part : (settings : ServeSettings) (requests : List (List ℕ)) (old mi
 query_part settings requests old mid new first last before id after later head body command is_query sixteen consumed unwritten lasts on reply answered cost is_hello remembers to to_is (Ok done) still h front cause =
     let sent = query_reply id to (document_of_served reply) in
     let to_front : to ≡ signed_at 4 (take 16 (head ++ body)) = to_is ∙ ap (signed_at 4) (sym (take_at head body 16 sixteen)) in
-    turn_taken settings requests old mid new first last before id after later (record { frame = head ++ body; document = command; sent = sent }) (inr is_query) consumed unwritten lasts still on h.appended (sent_flushed mid new sent h.appended h.flushed)
+    request_taken settings requests old mid new first last before id after later (record { frame = head ++ body; document = command; sent = sent }) (inr is_query) consumed unwritten lasts still on h.appended (sent_flushed mid new sent h.appended h.flushed)
     (record { reply = reply; answered = answered; sent = inr (is_query, is_hello, (ap (λ t. query_reply id t (document_of_served reply)) to_front, h.drawn)) })
     remembers cost
 query_part settings requests old mid new first last before id after later head body command is_query sixteen consumed unwritten lasts on reply answered cost is_hello remembers to to_is (Err fault) still h front cause =
@@ -91,7 +91,7 @@ query_part settings requests old mid new first last before id after later head b
     let bytes = query_reply id to (document_of_served reply) in
     let sent = appends_part (IsLongReply (document_of_served reply)) fault front.0 bytes mid new front.1 cause in
     let to_front : to ≡ signed_at 4 (take 16 (head ++ body)) = to_is ∙ ap (signed_at 4) (sym (take_at head body 16 sixteen)) in
-    turn_cut (IsLongReply (document_of_served reply)) settings requests old mid new first last before id after.user fault (record { frame = head ++ body; document = command; sent = take n bytes })
+    request_cut (IsLongReply (document_of_served reply)) settings requests old mid new first last before id after.user fault (record { frame = head ++ body; document = command; sent = take n bytes })
     (record {
       is_taken = inr is_query;
       after = after;

@@ -9,7 +9,7 @@ use Rattle.mongo_session.specs.Requests.{IsHello, SaysRequest}
 use Rattle.mongo_service.specs.Spent.{SpendsAfter, SpendsRounds}
 use Rattle.mongo_service.specs.Taken.{CarriesRequest, IsQuery}
 
--- ---- one turn
+-- ---- one request
 
 -- nothing was answered, and nothing derived
 pub none_spent : (settings : ServeSettings) (fault : Option ServeFault) (more : List ℕ) (steps : ℕ) → SpendsRounds settings [] fault more steps steps
@@ -39,7 +39,7 @@ pub request_at_most : (settings : ServeSettings) (document : List ℕ) (request 
 request_at_most settings document request says old new (rises, inl none) = (rises, inl none)
 request_at_most settings document request says old new (rises, inr (rounds, derived, most)) = (rises, inr (rounds, record { request = request; says = says; derived = derived }, most))
 
--- ---- turns after turns
+-- ---- requests after requests
 
 rounds_joined : (settings : ServeSettings) (xs ys : List (List ℕ)) (a b : ℕ) → AllRounds settings xs a → AllRounds settings ys b → AllRounds settings (xs ++ ys) (a + b)
 rounds_joined settings [] ys a b none others = subst (λ n. AllRounds settings ys n) (omega (arith, none)) others
@@ -55,7 +55,7 @@ rounds_then settings requests document first mid last (before, derived, steps) (
 pub all_spent : (settings : ServeSettings) (requests : List (List ℕ)) (fault : Option ServeFault) (more : List ℕ) (first last : ℕ) → CostsRounds (AllRounds settings requests) first last → SpendsRounds settings requests fault more first last
 all_spent settings requests fault more first last (rounds, derived, steps) = record { rounds = rounds; derived = derived; after = inl steps }
 
--- what was spent in the last turn, after those before it
+-- what the last request cost, after those before it
 pub rounds_after : (settings : ServeSettings) (requests others : List (List ℕ)) (fault : Option ServeFault) (more : List ℕ) (first mid last : ℕ) → CostsRounds (AllRounds settings requests) first mid → SpendsRounds settings others fault more mid last
     → SpendsRounds settings (requests ++ others) fault more first last
 rounds_after settings requests others fault more first mid last (before, derived, steps) s = record {

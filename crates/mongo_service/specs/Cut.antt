@@ -1,4 +1,4 @@
--- A turn that was cut, and why.
+-- A request that was cut, and why.
 use Rattle.std.specs.Prelude.{◌≡◌, ℕ, ℤ, pos, ◌<◌, ◌≤◌, ◌≤ℤ◌, ◌⊎◌, Option, Some, List, [], ◌++◌, length, IfSome}
 use Rattle.std.specs.List.{AllByRecursion}
 use Rattle.std.specs.Io.KnownBytes.{Consumes, Appends}
@@ -19,30 +19,30 @@ use Rattle.mongo_session.specs.Requests.{IsHello}
 use Rattle.mongo_service.specs.Sent.{CutsMessage, CutsQuery, IsLongMessage, IsLongReply}
 use Rattle.mongo_service.specs.Spent.{SpendsRounds}
 use Rattle.mongo_service.specs.Taken.{CarriesRequest, IsMessage, IsQuery}
-use Rattle.mongo_service.specs.Turns.{ServerTurn, IsTurnTaken, joined_frames, documents, sent_for}
+use Rattle.mongo_service.specs.ServedRequests.{ServedRequest, IsRequestTaken, joined_frames, documents, sent_for}
 
 -- ---- a frame whose answer was cut
 
 -- what was sent is a front of what answers the frame with a reply
-abbrev pub CutsIn : ServerTurn → Reply → ℤ → Type 0
-CutsIn turn reply id =
-    CutsMessage turn.frame turn.document reply id turn.sent ⊎ (IsQuery turn.frame turn.document × IsHello turn.document × CutsQuery turn.frame reply id turn.sent)
+abbrev pub CutsIn : ServedRequest → Reply → ℤ → Type 0
+CutsIn request reply id =
+    CutsMessage request.frame request.document reply id request.sent ⊎ (IsQuery request.frame request.document × IsHello request.document × CutsQuery request.frame reply id request.sent)
 
 -- the reply is longer than what answers the frame may be
-abbrev pub IsLong : ServerTurn → Reply → Type 0
-IsLong turn reply =
-    (IsMessage turn.frame turn.document × IsLongMessage (document_of_served reply)) ⊎ (IsQuery turn.frame turn.document × IsLongReply (document_of_served reply))
+abbrev pub IsLong : ServedRequest → Reply → Type 0
+IsLong request reply =
+    (IsMessage request.frame request.document × IsLongMessage (document_of_served reply)) ⊎ (IsQuery request.frame request.document × IsLongReply (document_of_served reply))
 
 -- the request was answered by the session, which has this user then, and the reply sent in part, for this fault; of one that is too long
 -- nothing is sent
-pub record IsCutTurn (settings : ServeSettings) (before : Session) (id : ℤ) (user : Option (List ℕ)) (fault : Option ServeFault) (turn : ServerTurn) : Type 0 where
-  pub is_taken : IsTurnTaken turn
+pub record IsCutRequest (settings : ServeSettings) (before : Session) (id : ℤ) (user : Option (List ℕ)) (fault : Option ServeFault) (request : ServedRequest) : Type 0 where
+  pub is_taken : IsRequestTaken request
   pub after : Session
   pub reply : Reply
-  pub answered : IsDocumentAnswered settings before turn.document after reply
+  pub answered : IsDocumentAnswered settings before request.document after reply
   pub user_is : user ≡ after.user
-  pub sent : CutsIn turn reply id
-  pub too_long : fault ≡ Some ReplyTooLong → IsLong turn reply × (turn.sent ≡ [])
+  pub sent : CutsIn request reply id
+  pub too_long : fault ≡ Some ReplyTooLong → IsLong request reply × (request.sent ≡ [])
 
 -- ---- bytes that were taken and not answered
 
@@ -67,7 +67,7 @@ abbrev pub AsksOtherwise : List ℕ → Type 0
 AsksOtherwise bytes = (document : List ℕ) × IsQuery bytes document × (IsHello document → ⊥)
 
 -- the answer to one frame was cut, and nothing was taken after it
-abbrev pub CutsOne : List ServerTurn → List ℕ → Type 0
+abbrev pub CutsOne : List ServedRequest → List ℕ → Type 0
 CutsOne cut more = (length cut ≡ 1) × (more ≡ [])
 
 -- some bytes were taken, where the link tells them
@@ -95,7 +95,7 @@ CountsFault fault old new = Unstopped old new × (new.write_faults ≡ old.write
 
 -- What a fault says of the bytes that weren't answered, and of the link before and after. Whatever it is, nothing is taken behind a frame
 -- whose answer is cut.
-abbrev pub HasCause : ServeFault → State → State → List ServerTurn → List ℕ → Type 0
+abbrev pub HasCause : ServeFault → State → State → List ServedRequest → List ℕ → Type 0
 HasCause ReadFault old new cut more = (cut ≡ []) × IsNoRequest more
 HasCause WriteFault old new cut more = CutsOne cut more
 HasCause CutFrame old new cut more = IsEmptied new.left × (cut ≡ []) × TookSome old more × IsNoRequest more
@@ -105,19 +105,19 @@ HasCause ReplyTooLong old new cut more = CutsOne cut more
 HasCause TooManyRequests old new cut more = ⊥
 HasCause OutOfMemory old new cut more = (cut ≡ []) ⊎ (more ≡ [])
 
--- A turn was cut: a frame was taken and its answer cut, or some bytes were taken and nothing answered. Who is logged in has sent what a
+-- A request was cut: a frame was taken and its answer cut, or some bytes were taken and nothing answered. Who is logged in has sent what a
 -- login takes.
 pub record IsCut (settings : ServeSettings) (requests : List (List ℕ)) (old new : State) (first last : ℕ) (before : Session) (id : ℤ) (user : Option (List ℕ)) (fault : ServeFault) : Type 0 where
-  pub turns : List ServerTurn
-  pub one : length turns ≤ 1
-  pub each : AllByRecursion (IsCutTurn settings before id user (Some fault)) turns
-  pub none : turns ≡ [] → user ≡ before.user
+  pub served_requests : List ServedRequest
+  pub one : length served_requests ≤ 1
+  pub each : AllByRecursion (IsCutRequest settings before id user (Some fault)) served_requests
+  pub none : served_requests ≡ [] → user ≡ before.user
   pub more : List ℕ
   pub part : IsPart more
-  pub consumed : Consumes old.left new.left (joined_frames turns ++ more)
-  pub appended : Appends old.written new.written (sent_for turns)
-  pub logged_in : IfSome user (λ name. HasLoggedIn settings name (requests ++ documents turns))
+  pub consumed : Consumes old.left new.left (joined_frames served_requests ++ more)
+  pub appended : Appends old.written new.written (sent_for served_requests)
+  pub logged_in : IfSome user (λ name. HasLoggedIn settings name (requests ++ documents served_requests))
   pub stays : old.flushed ≤ new.flushed
-  pub spent : SpendsRounds settings (documents turns) (Some fault) more first last
+  pub spent : SpendsRounds settings (documents served_requests) (Some fault) more first last
   pub counted : CountsFault fault old new
-  pub cause : HasCause fault old new turns more
+  pub cause : HasCause fault old new served_requests more

@@ -5,6 +5,6 @@ pub mod Report
 pub mod Run
 pub mod Sent
 pub mod Served
+pub mod ServedRequests
 pub mod Spent
 pub mod Taken
-pub mod Turns

@@ -1,4 +1,4 @@
-//! A MongoDB server over one link: turns, in each of which a frame is taken and answered before the next is read.
+//! A MongoDB server over one link: a frame is taken and answered before the next is read.
 //!
 //! In the order of the wire:
 //!

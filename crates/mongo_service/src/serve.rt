@@ -8,7 +8,7 @@ ghost use Rattle.mongo_session.specs.Costs.{DocumentRounds, CostsAtMost, CostsRo
 ghost use Rattle.mongo_session.specs.Login.{Remembers};
 ghost use Rattle.mongo_server.specs.Announced.{maximum_message_length};
 ghost use Rattle.mongo_session.specs.Requests.{IsHello};
-ghost use Rattle.mongo_service.specs.Served.{FollowsHead, TurnEnds, PartEnds, IsServed};
+ghost use Rattle.mongo_service.specs.Served.{FollowsHead, RequestEnds, PartEnds, IsServed};
 ghost use Rattle.mongo_service.specs.declared.fault.ServeFault.TheVariants.{NoHello, OutOfMemory};
 ghost use Rattle.mongo_wire.specs.declared.op_code.OpCode.TheVariants.{Message, Query};
 
@@ -57,8 +57,8 @@ pub fn serve<L: Link, G: Ledger>(
         buffer: FrameBuffer::new(alloc),
         ids: RequestIds::new(1),
     };
-    'serving: for _turn in 0..u64::MAX {
-        match take_turn(alloc, settings, link, &mut serving, steps) {
+    'serving: for _request in 0..u64::MAX {
+        match serve_request(alloc, settings, link, &mut serving, steps) {
             Ok(true) => {}
             Ok(false) => {
                 return Served {
@@ -81,15 +81,15 @@ pub fn serve<L: Link, G: Ledger>(
 }
 
 // Takes a request and answers it; says whether there was one.
-fn take_turn<L: Link, G: Ledger>(
+fn serve_request<L: Link, G: Ledger>(
     alloc: Global,
     settings: &ServeSettings,
     link: &mut L,
     serving: &mut Serving,
     steps: &mut Steps<G>,
 ) -> Result<bool, ServeFault>
-    ensures turn { (requests : List (List ℕ)) → Remembers settings.now requests serving.old.session →
-        TurnEnds settings.now requests (L.state link.old) (L.state link.new) steps.old steps.new serving.old.session serving.old.ids serving.new.session serving.new.ids result }
+    ensures request { (requests : List (List ℕ)) → Remembers settings.now requests serving.old.session →
+        RequestEnds settings.now requests (L.state link.old) (L.state link.new) steps.old steps.new serving.old.session serving.old.ids serving.new.session serving.new.ids result }
 {
     let mut head = [0u8; Header::LENGTH];
     match fill_or_end(link, &mut head) {
@@ -111,7 +111,7 @@ fn take_after<L: Link, G: Ledger>(
     head: &[u8; 16],
     steps: &mut Steps<G>,
 ) -> Result<(), ServeFault>
-    ensures turn { (requests : List (List ℕ)) (before : State) → Remembers settings.now requests serving.old.session → FollowsHead before (L.state link.old) head.now →
+    ensures request { (requests : List (List ℕ)) (before : State) → Remembers settings.now requests serving.old.session → FollowsHead before (L.state link.old) head.now →
         PartEnds settings.now requests before (L.state link.new) steps.old steps.new serving.old.session serving.old.ids serving.new.session serving.new.ids result }
 {
     match Header::decode(head) {
@@ -134,7 +134,7 @@ fn take_message<L: Link, G: Ledger>(
     steps: &mut Steps<G>,
 ) -> Result<(), ServeFault>
     requires { header.op_code ≡ Message }
-    ensures turn { (requests : List (List ℕ)) (before : State) → Remembers settings.now requests serving.old.session → FollowsHead before (L.state link.old) (header_bytes header) →
+    ensures request { (requests : List (List ℕ)) (before : State) → Remembers settings.now requests serving.old.session → FollowsHead before (L.state link.old) (header_bytes header) →
         PartEnds settings.now requests before (L.state link.new) steps.old steps.new serving.old.session serving.old.ids serving.new.session serving.new.ids result }
 {
     let maximum = Some(MAXIMUM_MESSAGE_LENGTH);
@@ -186,7 +186,7 @@ fn take_query<L: Link, G: Ledger>(
     steps: &mut Steps<G>,
 ) -> Result<(), ServeFault>
     requires { header.op_code ≡ Query }
-    ensures turn { (requests : List (List ℕ)) (before : State) → Remembers settings.now requests serving.old.session → FollowsHead before (L.state link.old) (header_bytes header) →
+    ensures request { (requests : List (List ℕ)) (before : State) → Remembers settings.now requests serving.old.session → FollowsHead before (L.state link.old) (header_bytes header) →
         PartEnds settings.now requests before (L.state link.new) steps.old steps.new serving.old.session serving.old.ids serving.new.session serving.new.ids result }
 {
     let Some(rest) = length_after(header.length) else {

@@ -6,25 +6,25 @@ use Rattle.mongo_service.proofs.Causes.{header_part}
 use Rattle.mongo_service.proofs.Lasts.{flushed_read}
 use Rattle.mongo_service.proofs.NoRequest.{other_code, unknown, unlike_code}
 use Rattle.mongo_service.proofs.Spent.{none_spent}
-use Rattle.mongo_service.proofs.Turns.{none_taken}
+use Rattle.mongo_service.proofs.ServedRequests.{none_taken}
 use Rattle.mongo_service.specs.declared.fault.ServeFault.TheVariants.{NoFrame}
 use Rattle.mongo_service.proofs.serve.take_after.Goals as goal
 
 pub returns-in-Message : goal.returns-in-Message
 returns-in-Message g c = record {
-  turn = λ requests before h f.
-      c.take_message.ensures.turn requests before h (subst (FollowsHead before (g.L.Outside.state c.args.link.now)) (sym c.in-Ok.ensures.spelled) f);
+  request = λ requests before h f.
+      c.take_message.ensures.request requests before h (subst (FollowsHead before (g.L.Outside.state c.args.link.now)) (sym c.in-Ok.ensures.spelled) f);
 }
 
 pub returns-in-Query : goal.returns-in-Query
 returns-in-Query g c = record {
-  turn = λ requests before h f.
-      c.take_query.ensures.turn requests before h (subst (FollowsHead before (g.L.Outside.state c.args.link.now)) (sym c.in-Ok.ensures.spelled) f);
+  request = λ requests before h f.
+      c.take_query.ensures.request requests before h (subst (FollowsHead before (g.L.Outside.state c.args.link.now)) (sym c.in-Ok.ensures.spelled) f);
 }
 
 pub returns-in_default : goal.returns-in_default
 returns-in_default g c = record {
-  turn = λ requests before h f.
+  request = λ requests before h f.
       let head = c.args.head.now in
       let steps = c.args.steps.now in
       let session = c.args.serving.now.session in
@@ -37,7 +37,7 @@ returns-in_default g c = record {
 
 pub returns-in-Err : goal.returns-in-Err
 returns-in-Err g c = record {
-  turn = λ requests before h f.
+  request = λ requests before h f.
       let head = c.args.head.now in
       let steps = c.args.steps.now in
       let session = c.args.serving.now.session in

@@ -13,13 +13,13 @@ use Rattle.mongo_service.proofs.NoRequest.{code_spelled}
 use Rattle.mongo_service.specs.Taken.{CarriesRequest}
 use Rattle.mongo_service.specs.Spent.{SpendsRounds}
 use Rattle.mongo_service.proofs.Spent.{memory_spent, none_spent}
-use Rattle.mongo_service.proofs.Turns.{none_taken}
+use Rattle.mongo_service.proofs.ServedRequests.{none_taken}
 use Rattle.mongo_service.proofs.Parts.{code_before, front_taken, has_some, message_part}
 use Rattle.mongo_service.proofs.serve.take_message.Goals as goal
 
 pub returns-in-Err : goal.returns-in-Err
 returns-in-Err g c = record {
-  turn = λ requests before h f.
+  request = λ requests before h f.
       let s = g.L.Outside.state c.args.link.now in
       let t = g.L.Outside.state c.take_after.new.source in
       let session = c.args.serving.now.session in
@@ -43,7 +43,7 @@ unreachable-requires g c =
 
 pub returns-in-Ok-answer_document : goal.returns-in-Ok-answer_document
 returns-in-Ok-answer_document g c = record {
-  turn = λ requests before h f.
+  request = λ requests before h f.
       let s = g.L.Outside.state c.args.link.now in
       let t = g.L.Outside.state c.take_after.new.source in
       let new = g.L.Outside.state c.respond.new.sink in
@@ -61,7 +61,7 @@ returns-in-Ok-answer_document g c = record {
 
 pub returns-in-Err-answer_document : goal.returns-in-Err-answer_document
 returns-in-Err-answer_document g c = record {
-  turn = λ requests before h f.
+  request = λ requests before h f.
       let s = g.L.Outside.state c.args.link.now in
       let t = g.L.Outside.state c.take_after.new.source in
       let taken = c.in-Ok.ensures.taken before f.taken f.unstopped in

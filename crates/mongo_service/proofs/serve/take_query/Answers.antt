@@ -14,13 +14,13 @@ use Rattle.mongo_service.proofs.Causes.{header_part, query_front_taken, some_bef
 use Rattle.mongo_wire.proofs.ReadStopped.{unstopped_on}
 use Rattle.mongo_service.proofs.Lasts.{flushed_after, flushed_read, lasts_after, lasts_read, lasts_unstopped}
 use Rattle.mongo_service.proofs.Spent.{none_spent, unasked_spent}
-use Rattle.mongo_service.proofs.Turns.{none_taken}
+use Rattle.mongo_service.proofs.ServedRequests.{none_taken}
 use Rattle.mongo_service.proofs.Parts.{query_part, query_of, none_after}
 use Rattle.mongo_service.proofs.serve.take_query.Goals as goal
 
 pub returns-in_default : goal.returns-in_default
 returns-in_default g c = record {
-  turn = λ requests before h f.
+  request = λ requests before h f.
       let head = header_bytes c.args.header in
       let session = c.args.serving.now.session in
       let sixteen : length head ≡ 16 = refl in
@@ -33,7 +33,7 @@ returns-in_default g c = record {
 
 pub returns-in-Err : goal.returns-in-Err
 returns-in-Err g c = record {
-  turn = λ requests before h f.
+  request = λ requests before h f.
       let s = g.L.Outside.state c.args.link.now in
       let t = g.L.Outside.state c.take_bytes.new.source in
       let session = c.args.serving.now.session in
@@ -52,7 +52,7 @@ returns-in-Err g c = record {
 
 pub returns-in_default-command_of_query : goal.returns-in_default-command_of_query
 returns-in_default-command_of_query g c = record {
-  turn = λ requests before h f.
+  request = λ requests before h f.
       let s = g.L.Outside.state c.args.link.now in
       let t = g.L.Outside.state c.take_bytes.new.source in
       let session = c.args.serving.now.session in
@@ -71,7 +71,7 @@ returns-in_default-command_of_query g c = record {
 
 pub returns-in-Ok-answer_query : goal.returns-in-Ok-answer_query
 returns-in-Ok-answer_query g c = record {
-  turn = λ requests before h f.
+  request = λ requests before h f.
       let s = g.L.Outside.state c.args.link.now in
       let t = g.L.Outside.state c.take_bytes.new.source in
       let new = g.L.Outside.state c.respond_to_query.new.sink in
@@ -94,7 +94,7 @@ returns-in-Ok-answer_query g c = record {
 
 pub returns : goal.returns
 returns g c = record {
-  turn = λ requests before h f.
+  request = λ requests before h f.
       let s = g.L.Outside.state c.args.link.now in
       let t = g.L.Outside.state c.take_bytes.new.source in
       let head = header_bytes c.args.header in

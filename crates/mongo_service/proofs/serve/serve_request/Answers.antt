@@ -5,12 +5,12 @@ use Rattle.mongo_service.proofs.Causes.{header_part, cause_of_stop}
 use Rattle.mongo_service.proofs.NoRequest.{within_header}
 use Rattle.mongo_service.proofs.Lasts.{flushed_read, lasts_all}
 use Rattle.mongo_service.proofs.Spent.{none_spent}
-use Rattle.mongo_service.proofs.Turns.{none_taken}
-use Rattle.mongo_service.proofs.serve.take_turn.Goals as goal
+use Rattle.mongo_service.proofs.ServedRequests.{none_taken}
+use Rattle.mongo_service.proofs.serve.serve_request.Goals as goal
 
 pub returns-in-Err : goal.returns-in-Err
 returns-in-Err g c = record {
-  turn = λ requests h.
+  request = λ requests h.
       let s = g.L.Outside.state c.args.link.now in
       let t = g.L.Outside.state c.fill_or_end.new.source in
       let session = c.args.serving.now.session in
