@@ -42,16 +42,16 @@ told_cause written count (Err refusal) x tells e is = subst (λ (r : Result Pool
   caused (Err error) = IsReported error.cause.kind
 
 -- the rehearsal and what it takes
-pub costs_so : {E : Type 0} (settings : Settings) (setup : Setup) (old new : State) (first last : Ledgers) (output left : List ℕ) (count : ℕ) (ended : Result PooledConnection EstablishError) (r : Result Rehearsal E)
+pub cost : {E : Type 0} (settings : Settings) (setup : Setup) (old new : State) (first last : Ledgers) (output left : List ℕ) (count : ℕ) (ended : Result PooledConnection EstablishError) (r : Result Rehearsal E)
     → setup ≡ setup_of settings → CostsAsLed ended setup old new first last → Replayed settings.replies output left old new
     → IfOk r (ReportsOutcome output count ended) → IfOk r (Replays settings ended old new) → IfOk r (CostsAsReported settings first last)
-costs_so settings setup old new first last output left count ended (Ok x) same costs p tells is =
+cost settings setup old new first last output left count ended (Ok x) same costs p tells is =
     let over = (subst (λ a. CostsAsLed ended a old new first last) same costs).over settings.replies p.given p.unfailed in
     record {
       rehearsal_is = is.rehearses.rehearsal_is;
       takes = subst (λ b. CostsLedgers settings b first last) (sym is.rehearses.logs_in_is) (takes_over settings first last ended over (told_cause output count ended x tells));
     }
-costs_so settings setup old new first last output left count ended (Err error) same costs p tells is = tt
+cost settings setup old new first last output left count ended (Err error) same costs p tells is = tt
 
 -- the rehearsal alone
 pub alone : {E : Type 0} (settings : Settings) (first last : Ledgers) (r : Result Rehearsal E) → IfOk r (CostsAsReported settings first last) → IfOk r (IsRehearsal settings)

@@ -151,12 +151,12 @@ shared_none start batch now status report steps entries rounds = record {
 
 pub shared_more : (start : ℕ) (front : List Settings) (settings : Settings) (old new : Rehearsal) (now later : Ledgers) → Shared start front old now → JoinsReport settings now later old new → Shared start (front ++ settings ∷ []) new later
 shared_more start front settings old new now later s j =
-    let t = j.costs_so.takes in
-    let report = j.costs_so.rehearsal_is.report in
+    let t = j.cost.takes in
+    let report = j.cost.rehearsal_is.report in
     let keys = all_keys [] s.logins in
     let taken = taken_with_held (logs_in report.outcome) keys t.key now later t.taken s.held in
     let login : BatchLogin = record { settings = settings; text = j.rehearsal.report.items; status = j.rehearsal.status; key = t.key; logged_in = logs_in report.outcome; rounds = taken.rounds } in
-    let is : IsBatchLogin keys login = record { report = report; status_is = j.costs_so.rehearsal_is.status_is; logged_in_is = refl; key_is = t.key_is; derived = taken.derived } in
+    let is : IsBatchLogin keys login = record { report = report; status_is = j.cost.rehearsal_is.status_is; logged_in_is = refl; key_is = t.key_is; derived = taken.derived } in
     let sums = sums-more s.logins login in
     record {
       logins = s.logins ++ login ∷ [];

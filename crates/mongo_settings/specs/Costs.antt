@@ -39,6 +39,6 @@ pub record CostsAsReported (settings : Settings) (first last : Ledgers) (rehears
 -- the batch has one report more, and says how it came out with that
 pub record JoinsReport (settings : Settings) (first last : Ledgers) (old new : Rehearsal) : Type 0 where
   pub rehearsal : Rehearsal
-  pub costs_so : CostsAsReported settings first last rehearsal
+  pub cost : CostsAsReported settings first last rehearsal
   pub report : new.report.items ≡ old.report.items ++ rehearsal.report.items
   pub status : new.status ≡ both old.status rehearsal.status

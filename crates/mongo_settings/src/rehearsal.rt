@@ -76,7 +76,7 @@ pub(crate) fn rehearse_with<G: Ledger>(
 ) -> Result<Rehearsal, AllocError>
     requires spoken { SpeaksFor settings.credential }
     // The report is that of the settings, whatever logins were made before.
-    ensures costs_so { IfOk result (CostsAsReported settings (ledgers steps.old state.old.salted) (ledgers steps.new state.new.salted)) }
+    ensures cost { IfOk result (CostsAsReported settings (ledgers steps.old state.old.salted) (ledgers steps.new state.new.salted)) }
     ensures steps { steps.old ≤ steps.new }
 {
     let (login, replies) = prepare(alloc, settings)?;

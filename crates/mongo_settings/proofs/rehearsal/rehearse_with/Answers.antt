@@ -2,7 +2,7 @@ use Rattle.std.proofs.Common.{◌≡◌, ◌≤◌, ◌-◌, ◌∙◌, ap, sym,
 use Rattle.mongo_wire.specs.Memory.{bytes_left}
 use Rattle.mongo_settings.proofs.Rehearsing.{Replayed, described, rehearsed, never_rose}
 use Rattle.mongo_settings.proofs.Shrinking.{left_within}
-use Rattle.mongo_settings.proofs.RehearsalCosts.{costs_so}
+use Rattle.mongo_settings.proofs.RehearsalCosts.{cost}
 use Rattle.mongo_settings.proofs.rehearsal.rehearse_with.Goals as goal
 
 pub overflow_sub-taken : goal.overflow_sub-taken
@@ -18,8 +18,8 @@ overflow_sub-taken g c =
 pub report_outcome-requires : goal.report_outcome-requires
 report_outcome-requires g c = record { described = described _ _ _ _ _ _ c.connect-ended.result c.connect-ended.ensures.ended.established }
 
-pub returns-clause-costs_so : goal.returns-clause-costs_so
-returns-clause-costs_so g c =
+pub returns-clause-cost : goal.returns-clause-cost
+returns-clause-cost g c =
     let settings = c.args.settings in
     let ready = c.in_ok-login.ensures in
     let new = c.new-link in
@@ -39,5 +39,5 @@ returns-clause-costs_so g c =
     } in
     let count : taken ≡ length settings.replies - length (bytes_left link) = ap (λ l. length l - length c.left.result.now) (c.left-total.ensures ∙ given)
     ∙ ap (λ l. length settings.replies - length l) c.left.ensures in
-    costs_so settings _ _ _ _ _ written (bytes_left link) taken ended c.report_outcome.result ready.login.setup how.led replayed c.report_outcome.ensures.told
+    cost settings _ _ _ _ _ written (bytes_left link) taken ended c.report_outcome.result ready.login.setup how.led replayed c.report_outcome.ensures.told
     (rehearsed settings _ _ _ _ _ _ written (bytes_left link) taken ended c.report_outcome.result ready.login.setup how.established how.refused replayed count c.report_outcome.ensures.told)
