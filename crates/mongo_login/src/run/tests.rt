@@ -10,7 +10,7 @@ use super::run_counted;
 use mongo_bson::{BsonFault, Bytes};
 use mongo_settings::Status;
 use mongo_wire::FailingLink;
-use rows::{Setup, check_rows, name_of, parts};
+use rows::{RowForm, check_rows, name_of, parts};
 use std::alloc::{AllocError, Global};
 use std::marker::Brand;
 use std::sync::ledger::Blank;
@@ -98,7 +98,7 @@ fn settings_decide_how_it_ends(rt: HostRuntime) -> Result<(), Fail> {
     let alloc = rt.alloc();
     assert!(rt; end_on(alloc, STANDALONE.as_bytes())? == (Status::Done, false));
     assert!(rt; end_on(alloc, CUT.as_bytes())? == (Status::Refused, false));
-    check_rows(alloc, Setup::Settings, SETTINGS)
+    check_rows(alloc, RowForm::Settings, SETTINGS)
 }
 
 // How settings end that blanks fill to so many bytes.
@@ -174,7 +174,7 @@ rehearse => none => second => SinkFault => nothing";
 
 #[test]
 fn faults_and_words_decide_too(rt: HostRuntime) -> Result<(), Fail> {
-    check_rows(rt.alloc(), Setup::Faults, FAULTS)
+    check_rows(rt.alloc(), RowForm::Faults, FAULTS)
 }
 
 // Settings of many logins, how they end, and what is written.
@@ -187,5 +187,5 @@ const BATCHES: &str = r#"{"logins":[]} => Done => rounds 0|
 
 #[test]
 fn batches_are_judged_login_by_login(rt: HostRuntime) -> Result<(), Fail> {
-    check_rows(rt.alloc(), Setup::Batch, BATCHES)
+    check_rows(rt.alloc(), RowForm::Batch, BATCHES)
 }
