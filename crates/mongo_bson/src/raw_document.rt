@@ -31,6 +31,14 @@ impl<'a> RawDocument<'a> {
         }
     }
 
+    /// The document of bytes that are known to be one, which aren't judged again.
+    pub fn of_framed(bytes: &'a [u8]) -> RawDocument<'a>
+        requires { IsFramed bytes.now }
+        ensures { result.bytes.now ≡ bytes.now }
+    {
+        RawDocument { bytes }
+    }
+
     /// The bytes of the document, its length and final zero included.
     pub fn as_bytes(&self) -> &'a [u8]
         ensures bytes { result.now ≡ self.now.bytes.now }

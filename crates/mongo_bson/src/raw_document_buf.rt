@@ -72,6 +72,16 @@ impl RawDocumentBuf {
         }
     }
 
+    /// The document of bytes that are known to be one, which aren't judged again.
+    pub fn of_framed(bytes: Bytes) -> RawDocumentBuf
+        requires { IsFramed bytes }
+        ensures { result ≡ bytes }
+    {
+        RawDocumentBuf {
+            held: bytes.into_vec(),
+        }
+    }
+
     /// Puts an element at the end: a key and a value. The element is written in place, so a document is built in time
     /// linear in its length. Where the document was one of BSON 1.1's elements, it is one of these and the new one, unless
     /// the bytes of [`RawValue::Other`] are no value of their kind.

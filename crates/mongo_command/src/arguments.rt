@@ -25,10 +25,7 @@ pub(crate) fn copy_with_room(
     let Ok(()) = copy.extend_from_slice(bytes) else {
         unreachable!()
     };
-    match RawDocumentBuf::from_bytes(Bytes::from_vec(copy)) {
-        Ok(copy) => Ok(copy),
-        Err(_) => unreachable!(),
-    }
+    Ok(RawDocumentBuf::of_framed(Bytes::from_vec(copy)))
 }
 
 // How many bytes `$db` and the fields that are there take in a document, for which memory is taken ahead: as many as a `usize`

@@ -54,10 +54,7 @@ pub(crate) fn properties_of(credential: &Credential) -> Result<RawDocument<'_>, 
 fn no_properties() -> RawDocument<'static>
     ensures { result.bytes.now ≡ enclosed [] }
 {
-    match RawDocument::from_bytes(b"\x05\0\0\0\0") {
-        Ok(document) => document,
-        Err(_) => unreachable!(),
-    }
+    RawDocument::of_framed(b"\x05\0\0\0\0")
 }
 
 // The value of a property, or None where there is none of this name. Where a name stands twice the first counts.

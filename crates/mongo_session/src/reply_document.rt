@@ -102,10 +102,7 @@ fn build_info_document(alloc: Global) -> Result<RawDocumentBuf, BsonFault>
 fn version_numbers() -> RawDocument<'static>
     ensures { result.bytes.now ≡ version_document }
 {
-    match RawDocument::from_bytes(
+    RawDocument::of_framed(
         b"!\0\0\0\x100\0\x07\0\0\0\x101\0\0\0\0\0\x102\0\0\0\0\0\x103\0\0\0\0\0\0",
-    ) {
-        Ok(numbers) => numbers,
-        Err(_) => unreachable!(),
-    }
+    )
 }

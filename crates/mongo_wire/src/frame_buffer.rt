@@ -86,10 +86,7 @@ impl FrameBuffer {
         match last {
             Some(frame) => {
                 let bytes = part_of(store, frame.offsets.body_start, frame.offsets.body_end);
-                match RawDocumentBuf::from_bytes(Bytes::from_vec(bytes)) {
-                    Ok(document) => document,
-                    Err(_) => unreachable!(),
-                }
+                RawDocumentBuf::of_framed(Bytes::from_vec(bytes))
             }
             None => unreachable!(),
         }

@@ -69,10 +69,7 @@ fn copy_of_document(alloc: Global, bytes: &[u8]) -> Result<RawDocumentBuf, BsonF
     ensures framed { IfOk result (λ document. IsFramed document) }
     ensures refused { IfErr result (λ fault. fault ≡ BsonFault.OutOfMemory) }
 {
-    match RawDocument::from_bytes(bytes) {
-        Ok(document) => document.to_raw_document_buf(alloc),
-        Err(_) => unreachable!(),
-    }
+    RawDocument::of_framed(bytes).to_raw_document_buf(alloc)
 }
 
 // Adds a sequence as an array.

@@ -34,15 +34,12 @@ impl<'b> MessageRef<'b> {
     {
         let document = &bytes[held.offsets.body_start..held.offsets.body_end];
         let sections = &bytes[FLAGS_LENGTH..held.offsets.sections_end];
-        match RawDocument::from_bytes(document) {
-            Ok(document_payload) => MessageRef {
-                header: held.header,
-                flags: MessageFlags::from_bits_truncate(held.word),
-                checksum: held.checksum,
-                document_payload,
-                sections,
-            },
-            Err(_) => unreachable!(),
+        MessageRef {
+            header: held.header,
+            flags: MessageFlags::from_bits_truncate(held.word),
+            checksum: held.checksum,
+            document_payload: RawDocument::of_framed(document),
+            sections,
         }
     }
 }

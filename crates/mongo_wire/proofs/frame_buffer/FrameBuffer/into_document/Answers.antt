@@ -10,15 +10,15 @@ part_of-bytes-requires c =
     let (ordered, within, is) = body_lies c.args.self frame parts c.in-Some.frame holds c.in-Some.is c.args.self.within in
     (ordered, within)
 
-pub unreachable-requires : goal.unreachable-requires
-unreachable-requires c =
+pub of_framed-requires : goal.of_framed-requires
+of_framed-requires c =
     let (frame, parts, holds) = c.requires.holds in
     let (ordered, within, is) = body_lies c.args.self frame parts c.in-Some.frame holds c.in-Some.is c.args.self.within in
     let sections = holds.is_held.is_frame in
-    absurd (false≢true (c.in-Err.ensures.framed.1 (subst IsFramed (sym (c.from_vec.ensures ∙ c.part_of-bytes.ensures ∙ is)) (framed_body sections.sections parts.body [] sections.each sections.one_body))))
+    subst IsFramed (sym (c.from_vec.ensures ∙ c.part_of-bytes.ensures ∙ is)) (framed_body sections.sections parts.body [] sections.each sections.one_body)
 
-pub unreachable-requires-in-None : goal.unreachable-requires-in-None
-unreachable-requires-in-None c =
+pub unreachable-requires : goal.unreachable-requires
+unreachable-requires c =
     let (frame, parts, holds) = c.requires.holds in
     absurd (false≢true (ap is_some (sym c.in-None.is ∙ holds.last_is)))
 
@@ -26,5 +26,5 @@ pub returns : goal.returns
 returns c = record {
   document = λ frame parts holds.
       let (ordered, within, is) = body_lies c.args.self frame parts c.in-Some.frame holds c.in-Some.is c.args.self.within in
-      c.in-Ok.ensures.bytes ∙ c.from_vec.ensures ∙ c.part_of-bytes.ensures ∙ is;
+      c.of_framed.ensures ∙ c.from_vec.ensures ∙ c.part_of-bytes.ensures ∙ is;
 }

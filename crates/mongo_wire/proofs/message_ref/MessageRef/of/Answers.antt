@@ -1,10 +1,6 @@
 use Rattle.std.proofs.Common.{ap, ◌∙◌, slice_range}
-use Rattle.std.proofs.lemmas.Bool.{false≢true}
 use Rattle.bitflags.proofs.OnLiterals.{bitflags_on_literals}
 use Rattle.mongo_wire.proofs.message_ref.MessageRef.of.Goals as goal
-
-pub unreachable-requires : goal.unreachable-requires
-unreachable-requires c = absurd (false≢true (c.in-Err.ensures.framed.1 c.requires.framed))
 
 pub returns-clause-shown : goal.returns-clause-shown
 unfolding bitflags_on_literals
@@ -15,6 +11,6 @@ returns-clause-shown c = λ frame parts is cut.
       header_is = is.header_is;
       flags_are = c.from_bits_truncate.ensures tt ∙ is.flags_are;
       checksum_is = is.checksum_is;
-      body_is = c.in-Ok.ensures.bytes ∙ ap (λ b. slice_range b place.body_start place.body_end) cut ∙ is.body_at.is;
+      body_is = c.of_framed.ensures ∙ ap (λ b. slice_range b place.body_start place.body_end) cut ∙ is.body_at.is;
       sections_are = ap (λ b. slice_range b 4 place.sections_end) cut ∙ is.sections_at.is;
     }
