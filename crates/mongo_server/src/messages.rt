@@ -10,7 +10,7 @@ use itoa::Buffer;
 use mongo_bson::Text;
 use mongo_mac::Tag;
 use mongo_scram::attributes::{NEXT_ITERATION_COUNT, NEXT_SALT, NONCE, VERIFIER};
-use mongo_scram::{encoded, room};
+use mongo_scram::{encoded, joined};
 use std::alloc::Global;
 
 /// The client's nonce and the server's suffix joined.
@@ -18,10 +18,7 @@ pub fn joined_nonce(alloc: Global, nonce: &str, suffix: &str) -> Result<Text, Se
     ensures text { IfOk result (λ text. text ≡ nonce.now ++ suffix.now) }
     ensures refused { IfErr result (λ fault. fault ≡ OutOfMemory) }
 {
-    let mut text = String::with_capacity(alloc, nonce.len() + suffix.len())?;
-    text.push_str(nonce)?;
-    text.push_str(suffix)?;
-    Ok(Text::from_string(text))
+    Ok(Text::from_string(joined(alloc, &[nonce, suffix])?))
 }
 
 /// The server's first message: `r=` nonce `,s=` salt in base64 `,i=` iteration count.
@@ -36,14 +33,18 @@ pub fn server_first_text(
     ensures refused { IfErr result (λ fault. fault ≡ OutOfMemory) }
 {
     let salt = encoded(alloc, salt)?;
-    let mut text = String::with_capacity(alloc, room(nonce.len(), salt.len()))?;
-    text.push_str(NONCE)?;
-    text.push_str(nonce)?;
-    text.push_str(NEXT_SALT)?;
-    text.push_str(salt.as_str())?;
-    text.push_str(NEXT_ITERATION_COUNT)?;
     let mut digits = Buffer::new();
-    text.push_str(digits.format(count))?;
+    let text = joined(
+        alloc,
+        &[
+            NONCE,
+            nonce,
+            NEXT_SALT,
+            salt.as_str(),
+            NEXT_ITERATION_COUNT,
+            digits.format(count),
+        ],
+    )?;
     Ok(Text::from_string(text))
 }
 
@@ -53,8 +54,5 @@ pub fn server_final_text(alloc: Global, verifier: &Tag) -> Result<Text, ServerFa
     ensures refused { IfErr result (λ fault. fault ≡ OutOfMemory) }
 {
     let verifier = encoded(alloc, verifier.as_bytes())?;
-    let mut text = String::with_capacity(alloc, room(verifier.len(), 0))?;
-    text.push_str(VERIFIER)?;
-    text.push_str(verifier.as_str())?;
-    Ok(Text::from_string(text))
+    Ok(Text::from_string(joined(alloc, &[VERIFIER, verifier.as_str()])?))
 }
