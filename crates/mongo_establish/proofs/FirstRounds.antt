@@ -17,8 +17,9 @@ use Rattle.mongo_establish.specs.declared.conversation.Conversation.TheVariants.
 use Rattle.mongo_establish.specs.declared.client_first.ClientFirst.{ClientFirst}
 use Rattle.mongo_establish.specs.declared.client_first.ClientFirst.TheVariants.{Scram, X509}
 use Rattle.mongo_establish.specs.declared.answered_round.AnsweredRound.{AnsweredRound}
+use Rattle.mongo_establish.specs.declared.answered_round.AnsweredRound.TheVariants.{Scram as ScramAnswered, X509 as X509Answered}
 use Rattle.mongo_establish.specs.Setup.{Setup}
-use Rattle.mongo_establish.specs.First.{first_document, IsScramFirst, IsX509First, IsFirstIn, IsFirstMessage, IsUnmade, IsRoundOf, scram_round, round_with}
+use Rattle.mongo_establish.specs.First.{first_document, IsScramFirst, IsX509First, IsFirstIn, IsFirstMessage, IsUnmade, IsRoundFrom, IsRoundIn, IsOwnRound, IsRoundOf, scram_round, round_with}
 use Rattle.mongo_establish.specs.Greeting.{Greeting}
 use Rattle.mongo_establish.specs.Speculation.{mechanism_before, ConversationRow, MechanismRow, speculation, speculation_by, speculation_in, scram_speculation, speculative_message, speculative_nonce, answer_to}
 use Rattle.mongo_establish.specs.Spoken.{conversation_of, IsScram}
@@ -119,3 +120,18 @@ round_of (Some credential) setup greeting first round same is there by =
           subst (λ w. speculated_of (scram_round round) ≡ option_map (round_made credential nonce) (answer_to (speculation w nonce) greeting.speculative)) (sym same)
           (by ∙ round_in (conversation_of (mechanism_before credential.mechanism)) credential nonce first greeting.speculative scram is);
     }
+
+-- a round of the kind of a conversation's first message is of the conversation's own
+begun_in : (conversation : Option Conversation) (credential : Credential) (nonce : List ℕ) (first : Option ClientFirst) (round : Option AnsweredRound) → IsFirstIn conversation credential nonce first → IsRoundFrom first round → IsRoundIn conversation round
+begun_in conversation credential nonce first None is from = tt
+begun_in (Some (ByScram version)) credential nonce (Some (Scram also first)) (Some (ScramAnswered round)) is from = tt
+begun_in (Some (ByScram version)) credential nonce (Some (Scram also first)) (Some X509Answered) is from = from
+begun_in (Some (ByScram version)) credential nonce first (Some round) is from = absurd is
+begun_in (Some ByX509) credential nonce (Some (X509 command)) (Some X509Answered) is from = tt
+begun_in (Some ByX509) credential nonce (Some (X509 command)) (Some (ScramAnswered round)) is from = from
+begun_in (Some ByX509) credential nonce first (Some round) is from = absurd is
+begun_in conversation credential nonce first (Some round) is from = subst (λ f. IsRoundFrom f (Some round)) is from
+
+pub own_round : (who : Option Credential) (nonce : List ℕ) (first : Option ClientFirst) (round : Option AnsweredRound) → IsFirstMessage who nonce first → IsRoundFrom first round → IsOwnRound who round
+own_round None nonce first round is from = tt
+own_round (Some credential) nonce first round is from = begun_in (conversation_of (mechanism_before credential.mechanism)) credential nonce first round is from

@@ -1,6 +1,6 @@
 -- What a login over a described connection shows of its plan: nobody logs in, the mechanism refuses the credential, or its
 -- conversation follows.
-use Rattle.std.proofs.Common.{◌≡◌, ℕ, ℤ, ◌∙◌, refl, ap, subst, sym, inl, inr, true, false, Bool, Option, None, Some, IsSome, List, is_some, if◌then◌else◌}
+use Rattle.std.proofs.Common.{◌≡◌, ℕ, ℤ, ◌∙◌, refl, ap, subst, sym, inl, inr, true, false, Bool, Option, None, Some, IsSome, List, [], is_some, if◌then◌else◌}
 use Rattle.mongo_wire.specs.declared.error.ErrorKind.{ErrorKind}
 use Rattle.mongo_wire.specs.declared.error.ErrorKind.TheVariants.{Authentication}
 use Rattle.mongo_wire.specs.declared.auth_fault.AuthFault.TheVariants.{MongoDbCr as MongoDbCrFault}
@@ -19,7 +19,7 @@ use Rattle.mongo_establish.specs.declared.conversation.Conversation.{Conversatio
 use Rattle.mongo_establish.specs.declared.answered_round.AnsweredRound.{AnsweredRound}
 use Rattle.mongo_establish.specs.Setup.{Setup}
 use Rattle.mongo_establish.specs.Costs.{AcceptedCosts, StoppedCosts, LoginCostsOf, LoginCosts, StoppedLoginCostsOf, StoppedLoginCosts}
-use Rattle.mongo_establish.specs.First.{IsRoundBy}
+use Rattle.mongo_establish.specs.First.{IsRoundIn, IsOwnRound, IsRoundBy}
 use Rattle.mongo_establish.specs.Greeting.{Greeting}
 use Rattle.mongo_establish.specs.LoggingIn.{IsCredentialValid, Conversed, ConversationStopped}
 use Rattle.mongo_establish.specs.Login.{holds_users, logging_in, speculative_reply, IsMechanism, InvalidRow, ValidatesCredential}
@@ -79,6 +79,18 @@ converses reply description mechanism credential is spoken made = its (conversat
 begun_by_scram : (given : Option AuthMechanism) (reply : Option (List ℕ)) (description : StreamDescription) (mechanism : AuthMechanism) → IsMechanism given reply description mechanism → IsScram (conversation_of mechanism) → IsScram (conversation_of (mechanism_before given))
 begun_by_scram (Some given) reply description mechanism is scram = subst (λ m. IsScram (conversation_of m)) is scram
 begun_by_scram None reply description mechanism is scram = tt
+
+-- where the server answered, it is the one that the hello began with
+begun_by_it : (given : Option AuthMechanism) (answer : List ℕ) (description : StreamDescription) (mechanism : AuthMechanism) → IsMechanism given (Some answer) description mechanism → mechanism ≡ mechanism_before given
+begun_by_it (Some given) answer description mechanism is = is
+begun_by_it None answer description mechanism is = is
+
+-- so a round of the login's own is of the conversation that it goes on by
+pub goes_on_in : (credential : Credential) (description : StreamDescription) (mechanism : AuthMechanism) (conversation : Conversation) (round : Option AnsweredRound) → ((reply : Option (List ℕ)) → is_some reply ≡ is_some round → IsMechanism credential.mechanism reply description mechanism)
+    → HasConversation mechanism conversation → IsOwnRound (Some credential) round → IsRoundIn (Some conversation) round
+goes_on_in credential description mechanism conversation None negotiated has own = tt
+goes_on_in credential description mechanism conversation (Some round) negotiated has own =
+    subst (λ o. IsRoundIn o (Some round)) (ap conversation_of (sym (begun_by_it credential.mechanism [] description mechanism (negotiated (Some []) refl))) ∙ has) own
 
 -- ---- what the mechanism says of the credential
 

@@ -20,7 +20,7 @@ use Rattle.mongo_establish.specs.declared.conversation.Conversation.TheVariants.
 use Rattle.mongo_establish.specs.declared.client_first.ClientFirst.{ClientFirst}
 use Rattle.mongo_establish.specs.declared.client_first.ClientFirst.TheVariants.{Scram, X509}
 use Rattle.mongo_establish.specs.declared.answered_round.AnsweredRound.{AnsweredRound}
-use Rattle.mongo_establish.specs.declared.answered_round.AnsweredRound.TheVariants.{Scram as ScramAnswered}
+use Rattle.mongo_establish.specs.declared.answered_round.AnsweredRound.TheVariants.{Scram as ScramAnswered, X509 as X509Answered}
 use Rattle.mongo_establish.specs.Spoken.{conversation_of, IsScram}
 use Rattle.mongo_establish.specs.Speculation.{mechanism_before, scram_speculation, speculative_message, speculative_nonce}
 
@@ -77,6 +77,30 @@ IsUnmade (Some document) kind = DocumentRefused kind document
 abbrev pub scram_round : Option AnsweredRound → Option ScramRound
 scram_round (Some (ScramAnswered round)) = Some round
 scram_round round = None
+
+-- none, or one of SCRAM
+abbrev pub IsScramRound : Option AnsweredRound → Type 0
+IsScramRound (Some X509Answered) = ⊥
+IsScramRound round = ⊤
+
+-- none, or one of the kind of the first message that it began with
+abbrev pub IsRoundFrom : Option ClientFirst → Option AnsweredRound → Type 0
+IsRoundFrom first None = ⊤
+IsRoundFrom (Some (Scram version first)) (Some (ScramAnswered round)) = ⊤
+IsRoundFrom (Some (X509 command)) (Some X509Answered) = ⊤
+IsRoundFrom first round = ⊥
+
+-- none, or one of the conversation's own kind
+abbrev pub IsRoundIn : Option Conversation → Option AnsweredRound → Type 0
+IsRoundIn conversation None = ⊤
+IsRoundIn (Some (ByScram version)) (Some (ScramAnswered round)) = ⊤
+IsRoundIn (Some ByX509) (Some X509Answered) = ⊤
+IsRoundIn conversation round = ⊥
+
+-- it is of the conversation that a credential's login begins with
+abbrev pub IsOwnRound : Option Credential → Option AnsweredRound → Type 0
+IsOwnRound None round = ⊤
+IsOwnRound (Some credential) round = IsRoundIn (conversation_of (mechanism_before credential.mechanism)) round
 
 -- what a round of SCRAM says by its first message, where it was answered
 abbrev pub round_with : Option ClientFirst → Option (List ℕ) → Option Speculated

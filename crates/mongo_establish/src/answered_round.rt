@@ -2,7 +2,7 @@
 
 ghost use Rattle.std.specs.Prelude.{◌≡◌, is_some, option_map};
 ghost use Rattle.mongo_scram.specs.Client.{speculated_of};
-ghost use Rattle.mongo_establish.specs.First.{first_document, scram_round, round_with};
+ghost use Rattle.mongo_establish.specs.First.{first_document, scram_round, round_with, IsScramRound, IsRoundFrom};
 ghost use Rattle.mongo_establish.specs.Speculation.{answer_to, left_in};
 
 use crate::ClientFirst;
@@ -24,6 +24,7 @@ pub(crate) fn answered_round(
 ) -> Option<AnsweredRound>
     ensures there { is_some result ≡ is_some (answer_to (option_map first_document first) reply.old.command_response.speculative_authenticate) }
     ensures scram { speculated_of (scram_round result) ≡ round_with first reply.old.command_response.speculative_authenticate }
+    ensures kind { IsRoundFrom first result }
     ensures reply { reply.new ≡ record reply.old { command_response = record reply.old.command_response { speculative_authenticate = left_in (option_map first_document first) reply.old.command_response.speculative_authenticate } } }
 {
     let Some(first) = first else {
@@ -45,10 +46,12 @@ pub(crate) fn answered_round(
 
 // A round of SCRAM.
 pub(crate) fn scram_round(round: Option<AnsweredRound>) -> Option<mongo_scram::FirstRound>
+    requires { IsScramRound round }
     ensures { result ≡ scram_round round }
 {
     match round {
+        None => None,
         Some(AnsweredRound::Scram(round)) => Some(round),
-        _ => None,
+        Some(AnsweredRound::X509) => unreachable!(),
     }
 }

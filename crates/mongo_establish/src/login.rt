@@ -8,6 +8,7 @@ ghost use Rattle.mongo_scram.specs.Cache.{entries_of};
 ghost use Rattle.mongo_scram.specs.Costs.{ledgers, checkpoint};
 ghost use Rattle.mongo_establish.specs.declared.conversation.Conversation.TheVariants.{Scram};
 ghost use Rattle.mongo_establish.specs.Setup.{setup_over};
+ghost use Rattle.mongo_establish.specs.First.{IsScramRound, IsRoundIn, IsOwnRound};
 ghost use Rattle.mongo_establish.specs.Login.{holds_users, IsMechanism, InvalidRow};
 ghost use Rattle.mongo_establish.specs.LoggingIn.{Converses, IsCredentialValid, LogsIn, LoginStops};
 ghost use Rattle.mongo_establish.specs.Speculation.{HelloRow, SpeaksFor};
@@ -38,6 +39,7 @@ pub(crate) fn log_in<L: Link, G: Ledger>(
     requires made { (kind : ErrorKind) → HelloRow (option_copied credential) kind → ⊥ }
     requires described { IsSome connection.old.stream_description }
     requires faultless { kept_fault connection.old ≡ None }
+    requires own { IsOwnRound (option_copied credential) round }
     ensures logged_in { OnOk result (LogsIn (setup_over connection.old options.now (option_copied credential.entry) inputs.now.nonces state.old.ids) connection.old.stream_description round
         (checkpoint (L.state link.old) state.old.ids (ledgers steps.old state.old.salted)) (checkpoint (L.state link.new) state.new.ids (ledgers steps.new state.new.salted))) }
     ensures refused { IfErr result (λ e. LoginStops (setup_over connection.old options.now (option_copied credential.entry) inputs.now.nonces state.old.ids) connection.old.stream_description round e.kind (kept_fault connection.new)
@@ -88,6 +90,7 @@ fn converse<L: Link, G: Ledger>(
     steps: &mut Steps<G>,
 ) -> Result<(), Error>
     requires faultless { kept_fault connection.old ≡ None }
+    requires own { IsRoundIn (Some conversation) round }
     ensures converses { Converses result conversation (setup_over connection.old options.now (Some credential.now) inputs.now.nonces state.old.ids) credential.now round connection.old connection.new
         (checkpoint (L.state link.old) state.old.ids (ledgers steps.old state.old.salted)) (checkpoint (L.state link.new) state.new.ids (ledgers steps.new state.new.salted)) }
 {
@@ -144,6 +147,7 @@ fn by_scram<L: Link, G: Ledger>(
     steps: &mut Steps<G>,
 ) -> Result<(), Error>
     requires faultless { kept_fault connection.old ≡ None }
+    requires own { IsScramRound round }
     ensures converses { Converses result (Scram version) (setup_over connection.old options.now (Some credential.now) inputs.now.nonces state.old.ids) credential.now round connection.old connection.new
         (checkpoint (L.state link.old) state.old.ids (ledgers steps.old state.old.salted)) (checkpoint (L.state link.new) state.new.ids (ledgers steps.new state.new.salted)) }
 {

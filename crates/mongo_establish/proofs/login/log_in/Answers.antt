@@ -1,6 +1,8 @@
-use Rattle.std.proofs.Common.{rules, ap, ◌∙◌, sym, option_copied}
+use Rattle.std.proofs.Common.{rules, ap, ◌∙◌, subst, sym, option_copied}
 use Rattle.mongo_scram.proofs.Derived.{costs_nothing}
 use Rattle.mongo_establish.specs.Setup.{setup_over}
+use Rattle.mongo_establish.specs.First.{IsOwnRound}
+use Rattle.mongo_establish.proofs.LoggedIn.{goes_on_in}
 use Rattle.mongo_establish.proofs.LoggingIn.{no_login, empty_server, has_row, log_in_invalid, log_in_accepted, log_in_stopped}
 use Rattle.mongo_establish.proofs.login.log_in.Goals as goal
 
@@ -20,6 +22,11 @@ pub unreachable-requires-in_default-conversation_of : goal.unreachable-requires-
 unreachable-requires-in_default-conversation_of g c =
     has_row c.args.connection.now c.args.options.now (option_copied c.args.credential) c.args.inputs.now.nonces c.args.state.now.ids c.in-Some.credential.now (ap option_copied c.in-Some.is) c.args.round c.in-Some-mechanism_at.mechanism c.in-Some-stream_description.description c.in-Some-stream_description.is
     (c.in-Some-mechanism_at.ensures.0, λ reply like. c.in-Some-mechanism_at.ensures.1 reply (like ∙ sym c.is_some.ensures)) c.requires.spoken c.requires.made (sym c.conversation_of.ensures ∙ c.in_default-conversation_of.is)
+
+pub converse-requires-clause-own : goal.converse-requires-clause-own
+converse-requires-clause-own g c =
+    goes_on_in c.in-Some.credential.now c.in-Some-stream_description.description c.in-Some-mechanism_at.mechanism c.in-Some-conversation_of.conversation c.args.round (λ reply like. c.in-Some-mechanism_at.ensures.1 reply (like ∙ sym c.is_some.ensures))
+    (sym c.conversation_of.ensures ∙ c.in-Some-conversation_of.is) (subst (λ who. IsOwnRound who c.args.round) (ap option_copied c.in-Some.is) c.requires.own)
 
 pub returns-clause-logged_in : goal.returns-clause-logged_in
 returns-clause-logged_in g c =

@@ -4,6 +4,7 @@ use Rattle.mongo_establish.specs.Options.{options_in}
 use Rattle.mongo_establish.proofs.Answered.{shaking_stopped, handshake_stopped}
 use Rattle.mongo_establish.proofs.Establishment.{establishment_only_memory, only_refused}
 use Rattle.mongo_establish.proofs.EstablishmentPlan.{one_handshake}
+use Rattle.mongo_establish.proofs.FirstRounds.{own_round}
 use Rattle.mongo_establish.proofs.Shaking.{unmade_stopped, ungreeted_stopped, login_stopped, shook, refusal_handed_on, ok_of}
 use Rattle.mongo_establish.proofs.handshaker.Handshaker.handshake.Goals as goal
 
@@ -15,6 +16,9 @@ pub returns-in_err-reply-clause-refused : goal.returns-in_err-reply-clause-refus
 returns-in_err-reply-clause-refused g c =
     ungreeted_stopped c.args.connection.now (options_in c.args.self.now) (option_copied c.args.credential) c.args.inputs.now.nonces c.args.state.now.ids
     c.in_ok-first.ensures.made c.in_ok-first.first c.in_ok-first.ensures.first _ c.say_hello.new.connection _ _ _ _ _ (costs_nothing _ _) (refusal_handed_on _ c.say_hello.result c.in_err-reply.field-0.0 _ c.from_residual-in_err-reply.ensures.1 c.in_err-reply.was c.say_hello.ensures.refused)
+
+pub log_in-requires-clause-own : goal.log_in-requires-clause-own
+log_in-requires-clause-own g c = own_round (option_copied c.args.credential) c.args.inputs.now.nonces.first c.in_ok-first.first c.answered_round-round.result c.in_ok-first.ensures.first c.answered_round-round.ensures.kind
 
 pub returns-in_err-log_in-clause-refused : goal.returns-in_err-log_in-clause-refused
 returns-in_err-log_in-clause-refused g c =
