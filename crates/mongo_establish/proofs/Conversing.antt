@@ -16,7 +16,7 @@ use Rattle.mongo_sasl.specs.declared.credential.Credential.{Credential}
 use Rattle.mongo_sasl.specs.EndsByScript.{standing, EndsByScript}
 use Rattle.mongo_sasl.specs.Plain.{plain_handed, plain_plan}
 use Rattle.mongo_sasl.specs.X509.{x509_handed, x509_plan}
-use Rattle.mongo_scram.specs.declared.conversation.FirstRound.{FirstRound as ScramRound}
+use Rattle.mongo_scram.specs.declared.first_round.FirstRound.{FirstRound as ScramRound}
 use Rattle.mongo_scram.specs.declared.scram_version.ScramVersion.{ScramVersion}
 use Rattle.mongo_scram.specs.Base64.{base64_of}
 use Rattle.mongo_scram.specs.Client.{speculated_of, handed_to}

@@ -121,7 +121,7 @@ round_of (Some credential) setup greeting first round same is there by =
           (by ∙ round_in (conversation_of (mechanism_before credential.mechanism)) credential nonce first greeting.speculative scram is);
     }
 
--- a round of the kind of a conversation's first message is of the conversation's own
+-- a round that began with a conversation's first message is of the conversation's own kind
 begun_in : (conversation : Option Conversation) (credential : Credential) (nonce : List ℕ) (first : Option ClientFirst) (round : Option AnsweredRound) → IsFirstIn conversation credential nonce first → IsRoundFrom first round → IsRoundIn conversation round
 begun_in conversation credential nonce first None is from = tt
 begun_in (Some (ByScram version)) credential nonce (Some (Scram also first)) (Some (ScramAnswered round)) is from = tt

@@ -8,7 +8,7 @@ use Rattle.mongo_sasl.specs.declared.mechanism.AuthMechanism.{AuthMechanism}
 use Rattle.mongo_sasl.specs.X509.{x509_command}
 use Rattle.mongo_scram.specs.declared.scram_version.ScramVersion.{ScramVersion}
 use Rattle.mongo_scram.specs.declared.messages.ClientFirst.{ClientFirst as ScramFirst}
-use Rattle.mongo_scram.specs.declared.conversation.FirstRound.{FirstRound as ScramRound}
+use Rattle.mongo_scram.specs.declared.first_round.FirstRound.{FirstRound as ScramRound}
 use Rattle.mongo_scram.specs.Client.{message_of, nonce_of, first_source, includes_db, SameFirst, speculated_of}
 use Rattle.mongo_scram.specs.Commands.{first_body}
 use Rattle.mongo_scram.specs.Plan.{Speculated}
@@ -97,7 +97,7 @@ IsRoundIn (Some (ByScram version)) (Some (ScramAnswered round)) = ⊤
 IsRoundIn (Some ByX509) (Some X509Answered) = ⊤
 IsRoundIn conversation round = ⊥
 
--- it is of the conversation that a credential's login begins with
+-- none, or one of the conversation that a credential's login begins with
 abbrev pub IsOwnRound : Option Credential → Option AnsweredRound → Type 0
 IsOwnRound None round = ⊤
 IsOwnRound (Some credential) round = IsRoundIn (conversation_of (mechanism_before credential.mechanism)) round

@@ -20,7 +20,7 @@ use Rattle.mongo_sasl.specs.Stops.{RefusedAtOnce}
 use Rattle.mongo_sasl.proofs.Handed.{on_answer}
 use Rattle.mongo_sasl.proofs.StopsBy.{not_both_faults, no_exchange}
 use Rattle.mongo_scram.specs.declared.messages.ClientFirst.{ClientFirst}
-use Rattle.mongo_scram.specs.declared.conversation.FirstRound.{FirstRound}
+use Rattle.mongo_scram.specs.declared.first_round.FirstRound.{FirstRound}
 use Rattle.mongo_scram.specs.declared.login.ScramLogin.{ScramLogin}
 use Rattle.mongo_scram.specs.declared.login.Opened.{Opened}
 use Rattle.mongo_scram.specs.Client.{message_of, nonce_of, first_source, includes_db, server_api_of, speculated_of}

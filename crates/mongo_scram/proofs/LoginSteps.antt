@@ -13,7 +13,7 @@ use Rattle.mongo_sasl.specs.Stops.{RefusedAtOnce}
 use Rattle.mongo_sasl.proofs.LastReply.{ends_reached}
 use Rattle.mongo_scram.specs.declared.cache.SaltedCache.{SaltedCache}
 use Rattle.mongo_scram.specs.declared.cache.SaltedKey.{SaltedKey}
-use Rattle.mongo_scram.specs.declared.conversation.FirstRound.{FirstRound}
+use Rattle.mongo_scram.specs.declared.first_round.FirstRound.{FirstRound}
 use Rattle.mongo_scram.specs.declared.login.Opened.{Opened}
 use Rattle.mongo_scram.specs.Cache.{entries_of, rounds_of, Adds}
 use Rattle.mongo_scram.specs.Client.{nonce_of, frames_after}

@@ -5,7 +5,7 @@ use Rattle.mongo_command.specs.declared.server_api.ServerApi.{ServerApi}
 use Rattle.mongo_sasl.specs.declared.credential.Credential.{Credential}
 use Rattle.mongo_scram.specs.declared.scram_version.ScramVersion.{ScramVersion}
 use Rattle.mongo_scram.specs.declared.auth_info.ClientAuthInfo.{ClientAuthInfo}
-use Rattle.mongo_scram.specs.declared.conversation.FirstRound.{FirstRound}
+use Rattle.mongo_scram.specs.declared.first_round.FirstRound.{FirstRound}
 use Rattle.mongo_scram.specs.User.{User}
 use Rattle.mongo_scram.specs.Plan.{Speculated, Handed}
 use Rattle.mongo_bson.specs.declared.owned_value.OwnedValue.{OwnedValue}

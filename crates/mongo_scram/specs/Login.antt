@@ -13,7 +13,7 @@ use Rattle.mongo_command.specs.Conversation.{Said, plain_message}
 use Rattle.mongo_sasl.specs.EndsByScript.{Standing}
 use Rattle.mongo_sasl.specs.Login.{EndsByReply}
 use Rattle.mongo_scram.specs.declared.cache.SaltedKey.{SaltedKey}
-use Rattle.mongo_scram.specs.declared.conversation.FirstRound.{FirstRound}
+use Rattle.mongo_scram.specs.declared.first_round.FirstRound.{FirstRound}
 use Rattle.mongo_scram.specs.declared.messages.ClientFinal.{ClientFinal}
 use Rattle.mongo_scram.specs.declared.login.ScramLogin.{ScramLogin}
 use Rattle.mongo_scram.specs.declared.login.Opened.{Opened}

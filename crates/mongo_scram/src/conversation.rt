@@ -1,22 +1,12 @@
 use crate::derivation::{answer, keep};
 use crate::login::{ScramLogin, close};
-use crate::{ClientFinal, ClientFirst, SaltedCache, ScramVersion};
-use mongo_bson::RawDocumentBuf;
+use crate::{ClientFinal, FirstRound, SaltedCache, ScramVersion};
 use mongo_command::{Connection, ServerApi};
 use mongo_mac::Steps;
 use mongo_sasl::Credential;
 use mongo_wire::{Error, FrameBuffer, Link, RequestIds};
 use std::alloc::Global;
 use std::sync::ledger::Ledger;
-
-/// A first round that went with the hello: what the client said, and the server's answer to it.
-#[derive(Debug, Drop)]
-pub struct FirstRound {
-    /// The client's first message.
-    pub client_first: ClientFirst,
-    /// The document that carries the server's first message.
-    pub server_first: RawDocumentBuf,
-}
 
 impl ScramVersion {
     ghost use Rattle.std.specs.Prelude.{◌≡◌, OnOk, option_copied};

@@ -1,9 +1,19 @@
 ghost use Rattle.std.specs.Prelude.{◌≡◌, Some, IfOk, IfErr};
 ghost use Rattle.mongo_wire.specs.declared.error.ErrorKind.TheVariants.{OutOfMemory};
 
-use crate::FirstRound;
+use crate::ClientFirst;
+use mongo_bson::RawDocumentBuf;
 use mongo_wire::Error;
 use std::alloc::Global;
+
+/// A first round that went with the hello: what the client said, and the server's answer to it.
+#[derive(Debug, Drop)]
+pub struct FirstRound {
+    /// The client's first message.
+    pub client_first: ClientFirst,
+    /// The document that carries the server's first message.
+    pub server_first: RawDocumentBuf,
+}
 
 impl FirstRound {
     ghost use Rattle.mongo_scram.specs.Client.{SameFirst, speculated_of};

@@ -14,7 +14,7 @@ ghost use Rattle.mongo_scram.specs.Login.{final_said, LastRefusal, LeavesOneExch
 ghost use Rattle.mongo_scram.specs.Version.{digest_of};
 
 use crate::auth_info::ClientAuthInfo;
-use crate::conversation::FirstRound;
+use crate::first_round::FirstRound;
 use crate::messages::{ClientFinal, ClientFirst};
 use crate::salted_password::SaltedPassword;
 use crate::scram_version::ScramVersion;

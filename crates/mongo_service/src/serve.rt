@@ -93,7 +93,7 @@ fn serve_request<L: Link, G: Ledger>(
 {
     let mut head = [0u8; Header::LENGTH];
     match fill_or_end(link, &mut head) {
-        Ok(true) => match take_after(alloc, settings, link, serving, &head, steps) {
+        Ok(true) => match take_request(alloc, settings, link, serving, &head, steps) {
             Ok(()) => Ok(true),
             Err(fault) => Err(fault),
         },
@@ -103,7 +103,7 @@ fn serve_request<L: Link, G: Ledger>(
 }
 
 // Takes what follows a header, and answers it.
-fn take_after<L: Link, G: Ledger>(
+fn take_request<L: Link, G: Ledger>(
     alloc: Global,
     settings: &ServeSettings,
     link: &mut L,

@@ -8,7 +8,7 @@ use Rattle.mongo_service.proofs.NoRequest.{other_code, unknown, unlike_code}
 use Rattle.mongo_service.proofs.Spent.{none_spent}
 use Rattle.mongo_service.proofs.ServedRequests.{none_taken}
 use Rattle.mongo_service.specs.declared.fault.ServeFault.TheVariants.{NoFrame}
-use Rattle.mongo_service.proofs.serve.take_after.Goals as goal
+use Rattle.mongo_service.proofs.serve.take_request.Goals as goal
 
 pub returns-in-Message : goal.returns-in-Message
 returns-in-Message g c = record {
