@@ -4,10 +4,10 @@ ghost use Rattle.mongo_wire.specs.Frame.{IsChecksum};
 ghost use Rattle.mongo_wire.specs.Header.{header_bytes};
 ghost use Rattle.mongo_wire.specs.declared.op_code.OpCode.TheVariants as op_code;
 
-use crate::Header;
 use crate::header::number;
 use crate::measure::{CHECKSUM_LENGTH, FLAGS_LENGTH, KIND_LENGTH};
 use crate::sections::{SectionRef, take_section};
+use crate::{Header, MessageFlags};
 
 // Where the parts of a frame lie in the bytes after its header: the only body, and the sections, which begin at 4, after
 // the flags.
@@ -101,7 +101,7 @@ fn read_checksum(word: u32, tail: &[u8]) -> Option<Option<u32>>
     if tail.len() != CHECKSUM_LENGTH {
         return None;
     }
-    if word % 2 == 1 {
+    if MessageFlags::tells_checksum(word) {
         Some(Some(number(tail, 0)))
     } else {
         None

@@ -98,7 +98,7 @@ fn sequences_size(sequences: &[DocumentSequence]) -> Option<u64>
         let Some(own) = sequence.size() else {
             return None;
         };
-        size = size.saturating_add(own as u64 + 1);
+        size = size.saturating_add((KIND_LENGTH + own as usize) as u64);
     }
     Some(size)
 }

@@ -1,4 +1,4 @@
-ghost use Rattle.std.specs.Prelude.{◌≡◌, ⊤, [], ◌∷◌, codes, bit_and};
+ghost use Rattle.std.specs.Prelude.{◌≡◌, ◌↔◌, ◌%◌, ⊤, [], ◌∷◌, IsTrue, codes, bit_and};
 ghost use Rattle.mongo_wire.specs.Frame.{checksum_present_bit, more_to_come_bit, exhaust_allowed_bit, known_flags};
 
 use bitflags::{Flag, Flags, bitflag_items};
@@ -38,6 +38,13 @@ impl Flags for MessageFlags {
 }
 
 impl MessageFlags {
+    // Whether a flag word says that a checksum follows the sections.
+    pub(crate) fn tells_checksum(word: u32) -> bool
+        ensures { IsTrue result ↔ (word % 2 ≡ 1) }
+    {
+        word & MessageFlags::CHECKSUM_PRESENT.0 != 0
+    }
+
     /// The flag word of a frame: the flags that have a meaning, and no other bit.
     pub fn word(&self) -> u32
         ensures { result ≡ bit_and self.now.0 known_flags }

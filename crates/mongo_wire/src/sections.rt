@@ -4,16 +4,22 @@ ghost use Rattle.mongo_wire.specs.Sections.{AreDocuments, SplitsSequence, HasNoS
 use crate::header::number;
 use mongo_bson::{MAXIMUM_LENGTH, RawDocument, take_cstring, take_document};
 
+// The kind of the section that holds the body.
+pub(crate) const BODY_KIND: u8 = 0;
+
+// The kind of a section that holds a sequence.
+pub(crate) const SEQUENCE_KIND: u8 = 1;
+
 // A section as it lies in a frame.
 #[derive(Debug, Clone, Copy)]
 pub(crate) enum SectionRef<'a> {
-    // kind 0, which holds the body
+    // the body
     Body(RawDocument<'a>),
-    // kind 1
+    // a sequence
     Sequence(SequenceRef<'a>),
 }
 
-// A section of kind 1: its identifier, and its documents one after another.
+// A sequence: its identifier, and its documents one after another.
 #[derive(Debug, Clone, Copy)]
 pub(crate) struct SequenceRef<'a> {
     pub(crate) identifier: &'a str,
@@ -43,11 +49,11 @@ pub(crate) fn split_section<'a>(bytes: &'a [u8]) -> Option<(SectionRef<'a>, &'a 
 {
     let (kind, rest) = bytes.split_first()?;
     match *kind {
-        0 => match take_document(rest) {
+        BODY_KIND => match take_document(rest) {
             Some((document, after)) => Some((SectionRef::Body(document), after)),
             None => None,
         },
-        1 => match split_sequence(rest) {
+        SEQUENCE_KIND => match split_sequence(rest) {
             Some((sequence, after)) => Some((SectionRef::Sequence(sequence), after)),
             None => None,
         },

@@ -9,6 +9,7 @@ ghost use Rattle.mongo_wire.specs.Message.{frame_length, before_checksum, checks
 ghost use Rattle.mongo_wire.specs.Measure.{HasCountedSize, documents_bytes, sequence_section, sequences_bytes};
 
 use crate::header::numbers_bytes;
+use crate::sections::{BODY_KIND, SEQUENCE_KIND};
 use crate::writing::{write_out, write_pieces};
 use crate::{DocumentSequence, Error, Message, MessageFlags, OpCode, Sink};
 use mongo_bson::RawDocumentBuf;
@@ -56,7 +57,7 @@ fn section_start(flags: MessageFlags) -> [u8; 5]
     ensures { result ≡ uint32 (bit_and flags.0 known_flags) ++ (0 ∷ []) }
 {
     let [f0, f1, f2, f3] = flags.word().to_le_bytes();
-    [f0, f1, f2, f3, 0]
+    [f0, f1, f2, f3, BODY_KIND]
 }
 
 // Writes the sections of the sequences, one after another.
@@ -94,7 +95,7 @@ fn sequence_start(sequence: &DocumentSequence) -> [u8; 5]
     match sequence.size() {
         Some(size) => {
             let [s0, s1, s2, s3] = size.to_le_bytes();
-            [1, s0, s1, s2, s3]
+            [SEQUENCE_KIND, s0, s1, s2, s3]
         }
         None => unreachable!(),
     }
