@@ -5,9 +5,9 @@ ghost use Rattle.mongo_bson.specs.Find.{LacksKey, BreaksOff};
 ghost use Rattle.mongo_bson.specs.Merge.{HasIdNow, id_key, id_element};
 ghost use Rattle.mongo_bson.specs.Refusals.{IdRefuses, PushRefuses, HadMemory};
 
-use crate::raw_document::element_bytes;
+use crate::raw_document::{EMPTY_DOCUMENT, element_bytes};
 use crate::writing::{has_room_for, push_element, push_elements};
-use crate::{BsonFault, Bytes, ObjectId, OwnedValue, RawDocumentBuf, RawValue};
+use crate::{BsonFault, Bytes, ObjectId, OwnedValue, RawDocumentBuf, RawValue, kinds};
 use std::alloc::Global;
 
 // The key of a document's id.
@@ -62,7 +62,7 @@ fn prepend_id(
     ensures unchanged { OnErr result (document.new ≡ document.old) }
     ensures refused { IfErr result PushRefuses }
 {
-    let value = owned(alloc, 0x07, &id.0)?;
+    let value = owned(alloc, kinds::OBJECT_ID, &id.0)?;
     match with_id_first(alloc, document.as_bytes(), id) {
         Ok(with_id) => {
             *document = with_id;
@@ -83,7 +83,7 @@ fn with_id_first(alloc: Global, document: &[u8], id: ObjectId) -> Result<RawDocu
         return Err(BsonFault::TooLong);
     }
     let mut held = Vec::with_capacity(alloc, document.len() + ID_ELEMENT)?;
-    let Ok(()) = held.extend_from_slice(&[5, 0, 0, 0, 0]) else {
+    let Ok(()) = held.extend_from_slice(&EMPTY_DOCUMENT) else {
         unreachable!()
     };
     push_element(&mut held, ID_KEY, RawValue::ObjectId(id))?;

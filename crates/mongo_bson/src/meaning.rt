@@ -4,7 +4,7 @@ ghost use Rattle.mongo_bson.specs.Document.{IsString, IsBinary, Holds, boolean, 
 ghost use Rattle.mongo_bson.specs.Value.{IsValue};
 ghost use Rattle.mongo_bson.specs.Reading.{HoldsKind};
 
-use crate::{ObjectId, RawDocument, RawValue};
+use crate::{ObjectId, RawDocument, RawValue, kinds};
 
 // What the bytes of a value of this kind mean.
 pub(crate) fn value_of<'a>(kind: u8, bytes: &'a [u8]) -> RawValue<'a>
@@ -12,17 +12,17 @@ pub(crate) fn value_of<'a>(kind: u8, bytes: &'a [u8]) -> RawValue<'a>
     ensures { IsValue kind bytes.now result }
 {
     match kind {
-        0x01 => RawValue::Double(word_of(bytes)),
-        0x02 => RawValue::Str(text_of_string(bytes)),
-        0x03 => RawValue::Document(RawDocument { bytes }),
-        0x04 => RawValue::Array(RawDocument { bytes }),
-        0x05 => binary_of(bytes),
-        0x07 => RawValue::ObjectId(object_id_of(bytes)),
-        0x08 => RawValue::Bool(boolean_of(bytes)),
-        0x09 => RawValue::DateTime(word_of(bytes).cast_signed()),
-        0x0A => RawValue::Null,
-        0x10 => RawValue::Int32(half_word_of(bytes).cast_signed()),
-        0x12 => RawValue::Int64(word_of(bytes).cast_signed()),
+        kinds::DOUBLE => RawValue::Double(word_of(bytes)),
+        kinds::STRING => RawValue::Str(text_of_string(bytes)),
+        kinds::DOCUMENT => RawValue::Document(RawDocument { bytes }),
+        kinds::ARRAY => RawValue::Array(RawDocument { bytes }),
+        kinds::BINARY => binary_of(bytes),
+        kinds::OBJECT_ID => RawValue::ObjectId(object_id_of(bytes)),
+        kinds::BOOLEAN => RawValue::Bool(boolean_of(bytes)),
+        kinds::DATE_TIME => RawValue::DateTime(word_of(bytes).cast_signed()),
+        kinds::NULL => RawValue::Null,
+        kinds::INT32 => RawValue::Int32(half_word_of(bytes).cast_signed()),
+        kinds::INT64 => RawValue::Int64(word_of(bytes).cast_signed()),
         _ => RawValue::Other(kind, bytes),
     }
 }

@@ -7,6 +7,9 @@ use std::alloc::Global;
 /// The greatest length of a document and of a value, the greatest `int32`: an `int32` says how long each is.
 pub const MAXIMUM_LENGTH: usize = 0x7FFF_FFFF;
 
+/// The bytes of the document without elements.
+pub const EMPTY_DOCUMENT: [u8; 5] = [5, 0, 0, 0, 0];
+
 /// A document borrowed from bytes: its length field is its length, and its last byte is zero. Its elements are judged
 /// as they are read.
 #[derive(Debug, Clone, Copy, PartialEq, Drop)]

@@ -9,7 +9,7 @@ ghost use Rattle.mongo_bson.specs.Value.{element_of};
 ghost use Rattle.mongo_bson.specs.Writable.{AddsValue};
 ghost use Rattle.mongo_bson.specs.Refusals.{AppendRefuses, PushRefuses};
 
-use crate::raw_document::is_framed;
+use crate::raw_document::{EMPTY_DOCUMENT, is_framed};
 use crate::writing::{has_room, has_room_for, has_zero, push_element, push_elements};
 use crate::{BsonFault, Bytes, Items, RawDocument, RawValue, TryClone};
 use std::alloc::Global;
@@ -39,7 +39,7 @@ impl RawDocumentBuf {
         ensures refused { IfErr result (λ fault. fault ≡ BsonFault.OutOfMemory) }
     {
         let mut held = Vec::with_capacity(alloc, FIRST_CAPACITY)?;
-        match held.extend_from_slice(&[5, 0, 0, 0, 0]) {
+        match held.extend_from_slice(&EMPTY_DOCUMENT) {
             Ok(()) => Ok(RawDocumentBuf { held }),
             Err(_) => unreachable!(),
         }

@@ -3,10 +3,10 @@ ghost use Rattle.mongo_bson.specs.Framed.{IsFramed};
 ghost use Rattle.mongo_bson.specs.Document.{IsReadable, maximum_depth, Holds, code_with_scope};
 ghost use Rattle.mongo_bson.specs.Reading.{HoldsKind, IsOnlyInside, HoldsNoDocument, IsScopeOf, element_read};
 
-use crate::RawDocument;
 use crate::element::{RawElement, take_element};
 use crate::raw_document::element_bytes;
 use crate::shape::counted_len;
+use crate::{RawDocument, kinds};
 
 // How many levels of documents may stand in one another.
 const MAXIMUM_DEPTH: u32 = 100;
@@ -55,9 +55,9 @@ fn document_inside<'a>(element: RawElement<'a>) -> Option<&'a [u8]>
     ensures { MatchOption result (HoldsNoDocument (element_read element.entry)) (λ d. IsOnlyInside (element_read element.entry) d.now) }
 {
     match element.kind {
-        0x03 => Some(element.value),
-        0x04 => Some(element.value),
-        0x0F => Some(scope_of(element.value)),
+        kinds::DOCUMENT => Some(element.value),
+        kinds::ARRAY => Some(element.value),
+        kinds::CODE_WITH_SCOPE => Some(scope_of(element.value)),
         _ => None,
     }
 }

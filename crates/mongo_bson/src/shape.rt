@@ -5,6 +5,7 @@ ghost use Rattle.mongo_bson.specs.Document.{Holds, fixed, boolean, regular_expre
 ghost use Rattle.mongo_bson.specs.Reading.{IsAtFront, NoneAtFront, HoldsKind, IsCounted, IsNotCounted, IsCodeAndScope};
 
 use crate::cstring::take_cstring;
+use crate::kinds;
 use crate::raw_document::{MAXIMUM_LENGTH, is_framed};
 
 // How many bytes the value of a kind takes at the front. None where no value of that kind stands there, as for a kind
@@ -14,48 +15,27 @@ pub(crate) fn value_len(kind: u8, bytes: &[u8]) -> Option<usize>
     ensures { MatchOption result (NoneAtFront (HoldsKind kind) bytes.now) (IsAtFront (HoldsKind kind) bytes.now) }
 {
     match kind {
-        // double
-        0x01 => fixed_len(8, bytes),
-        // string
-        0x02 => string_len(bytes),
-        // document
-        0x03 => document_len(bytes),
-        // array
-        0x04 => document_len(bytes),
-        // binary
-        0x05 => binary_len(bytes),
-        // undefined
-        0x06 => fixed_len(0, bytes),
-        // object id
-        0x07 => fixed_len(12, bytes),
-        // boolean
-        0x08 => boolean_len(bytes),
-        // UTC date and time
-        0x09 => fixed_len(8, bytes),
-        // null
-        0x0A => fixed_len(0, bytes),
-        // regular expression
-        0x0B => regular_expression_len(bytes),
-        // DBPointer
-        0x0C => db_pointer_len(bytes),
-        // JavaScript code
-        0x0D => string_len(bytes),
-        // symbol
-        0x0E => string_len(bytes),
-        // code with scope
-        0x0F => code_with_scope_len(bytes),
-        // int32
-        0x10 => fixed_len(4, bytes),
-        // timestamp
-        0x11 => fixed_len(8, bytes),
-        // int64
-        0x12 => fixed_len(8, bytes),
-        // decimal128
-        0x13 => fixed_len(16, bytes),
-        // max key
-        0x7F => fixed_len(0, bytes),
-        // min key
-        0xFF => fixed_len(0, bytes),
+        kinds::DOUBLE => fixed_len(8, bytes),
+        kinds::STRING => string_len(bytes),
+        kinds::DOCUMENT => document_len(bytes),
+        kinds::ARRAY => document_len(bytes),
+        kinds::BINARY => binary_len(bytes),
+        kinds::UNDEFINED => fixed_len(0, bytes),
+        kinds::OBJECT_ID => fixed_len(12, bytes),
+        kinds::BOOLEAN => boolean_len(bytes),
+        kinds::DATE_TIME => fixed_len(8, bytes),
+        kinds::NULL => fixed_len(0, bytes),
+        kinds::REGULAR_EXPRESSION => regular_expression_len(bytes),
+        kinds::DB_POINTER => db_pointer_len(bytes),
+        kinds::CODE => string_len(bytes),
+        kinds::SYMBOL => string_len(bytes),
+        kinds::CODE_WITH_SCOPE => code_with_scope_len(bytes),
+        kinds::INT32 => fixed_len(4, bytes),
+        kinds::TIMESTAMP => fixed_len(8, bytes),
+        kinds::INT64 => fixed_len(8, bytes),
+        kinds::DECIMAL128 => fixed_len(16, bytes),
+        kinds::MAX_KEY => fixed_len(0, bytes),
+        kinds::MIN_KEY => fixed_len(0, bytes),
         _ => None,
     }
 }

@@ -6,7 +6,7 @@ ghost use Rattle.mongo_bson.specs.Value.{kind_of, bytes_of, element_of};
 
 use crate::cstring::cstring_end;
 use crate::raw_document::MAXIMUM_LENGTH;
-use crate::{BsonFault, RawValue};
+use crate::{BsonFault, RawValue, kinds};
 
 // What writes one element is written out where an element is put in: most callers name the key and the kind of the value,
 // so that there nothing is left of the tests for the others.
@@ -191,17 +191,17 @@ fn kind_byte(value: RawValue<'_>) -> u8
     ensures { result ≡ kind_of value.entry }
 {
     match value {
-        RawValue::Double(_) => 0x01,
-        RawValue::Str(_) => 0x02,
-        RawValue::Document(_) => 0x03,
-        RawValue::Array(_) => 0x04,
-        RawValue::Binary(_, _) => 0x05,
-        RawValue::ObjectId(_) => 0x07,
-        RawValue::Bool(_) => 0x08,
-        RawValue::DateTime(_) => 0x09,
-        RawValue::Null => 0x0A,
-        RawValue::Int32(_) => 0x10,
-        RawValue::Int64(_) => 0x12,
+        RawValue::Double(_) => kinds::DOUBLE,
+        RawValue::Str(_) => kinds::STRING,
+        RawValue::Document(_) => kinds::DOCUMENT,
+        RawValue::Array(_) => kinds::ARRAY,
+        RawValue::Binary(_, _) => kinds::BINARY,
+        RawValue::ObjectId(_) => kinds::OBJECT_ID,
+        RawValue::Bool(_) => kinds::BOOLEAN,
+        RawValue::DateTime(_) => kinds::DATE_TIME,
+        RawValue::Null => kinds::NULL,
+        RawValue::Int32(_) => kinds::INT32,
+        RawValue::Int64(_) => kinds::INT64,
         RawValue::Other(kind, _) => kind,
     }
 }

@@ -6,7 +6,7 @@ ghost use Rattle.mongo_command.specs.Keys.{api_version_key, write_concern_key};
 
 use crate::ServerApi;
 use crate::keys::{API_VERSION, OK, WRITE_CONCERN};
-use mongo_bson::{GENERIC, RawDocumentBuf, RawValue, Text};
+use mongo_bson::{GENERIC, RawDocumentBuf, RawValue, Text, kinds};
 
 // The bits of the double 1.0, IEEE 754 binary64.
 const ONE: u64 = 0x3FF0_0000_0000_0000;
@@ -152,7 +152,7 @@ pub(crate) fn optional_timestamp_field<'a>(
     ensures named { IsNamed result }
 {
     match bytes {
-        Some(bytes) => Some((key, RawValue::Other(0x11, bytes.as_slice()))),
+        Some(bytes) => Some((key, RawValue::Other(kinds::TIMESTAMP, bytes.as_slice()))),
         None => None,
     }
 }

@@ -7,7 +7,7 @@ ghost use Rattle.mongo_sasl.specs.Rules.{properties_of, text_in, is_other_than_a
 ghost use Rattle.mongo_sasl.specs.Validation.{has_foreign_property, is_oidc_property};
 
 use crate::Credential;
-use mongo_bson::{RawDocument, RawValue};
+use mongo_bson::{EMPTY_DOCUMENT, RawDocument, RawValue};
 use mongo_wire::ArgumentFault;
 
 /// The property of MONGODB-OIDC that names what a token is for.
@@ -54,7 +54,7 @@ pub(crate) fn properties_of(credential: &Credential) -> Result<RawDocument<'_>, 
 fn no_properties() -> RawDocument<'static>
     ensures { result.bytes.now ≡ enclosed [] }
 {
-    RawDocument::of_framed(b"\x05\0\0\0\0")
+    RawDocument::of_framed(&EMPTY_DOCUMENT)
 }
 
 // The value of a property, or None where there is none of this name. Where a name stands twice the first counts.

@@ -73,6 +73,9 @@ fn send_document<K: Sink>(
 // numberReturned 1.
 const REPLY_FIELDS: [u8; 20] = [8, 0, 0, 0, 0, 0, 0, 0, 0, 0, 0, 0, 0, 0, 0, 0, 1, 0, 0, 0];
 
+// How many bytes an OP_REPLY has before its document.
+const REPLY_START: usize = Header::LENGTH + REPLY_FIELDS.len();
+
 /// Answers an OP_QUERY of this id: writes the reply as an OP_REPLY, and flushes it.
 pub fn respond_to_query<K: Sink>(
     alloc: Global,
@@ -91,7 +94,7 @@ pub fn respond_to_query<K: Sink>(
         Ok(document) => document,
         Err(fault) => return Err(fault_of_document(fault)),
     };
-    if document.as_bytes().len() > MAXIMUM_MESSAGE_LENGTH as usize - 36 {
+    if document.as_bytes().len() > MAXIMUM_MESSAGE_LENGTH as usize - REPLY_START {
         return Err(ServeFault::ReplyTooLong);
     }
     let frame = match frame_of_reply(alloc, ids.draw(), request_id, document.as_bytes()) {
@@ -120,7 +123,7 @@ fn header_of_reply(id: i32, to: i32, length: usize) -> Header
     ensures header { result ≡ query_header id to length }
 {
     Header {
-        length: (Header::LENGTH + REPLY_FIELDS.len() + length) as i32,
+        length: (REPLY_START + length) as i32,
         request_id: id,
         response_to: to,
         op_code: OpCode::Reply,
