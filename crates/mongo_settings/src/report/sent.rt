@@ -4,6 +4,7 @@ ghost use Rattle.std.specs.List.{AllByRecursion, concat};
 ghost use Rattle.mongo_settings.specs.Report.{CountsItself, front_length, sent_line, sent_lines, read_count_line};
 
 use crate::report::line::{begin_line, end_line, push_hex, push_number};
+use mongo_wire::Header;
 use std::alloc::AllocError;
 
 /// Appends a line for each frame that was written: `sent` and the frame in hex.
@@ -26,11 +27,11 @@ pub fn push_sent(out: &mut Vec<u8>, written: &[u8]) -> Result<(), AllocError>
 fn front_length(bytes: &[u8]) -> Option<usize>
     ensures { result ≡ front_length bytes.now }
 {
-    if bytes.len() < 16 {
+    if bytes.len() < Header::LENGTH {
         return None;
     }
     let length = u32::from_le_bytes([bytes[0], bytes[1], bytes[2], bytes[3]]) as usize;
-    if length < 16 || bytes.len() < length {
+    if length < Header::LENGTH || bytes.len() < length {
         return None;
     }
     Some(length)
