@@ -1,5 +1,5 @@
 -- What settings say of the client: its options.
-use Rattle.std.specs.Prelude.{ℕ, false, if◌then◌else◌, Option, None, Some, option_and_then, unwrap_or, List, [], ◌∷◌, codes, bytes_eq}
+use Rattle.std.specs.Prelude.{ℕ, Bool, false, if◌then◌else◌, Option, None, Some, option_and_then, unwrap_or, List, [], ◌∷◌, codes, bytes_eq}
 use Rattle.serde_json.specs.Data.{Data, Items, no_items, item}
 use Rattle.serde_json.specs.Find.{as_str, as_bool, as_array}
 use Rattle.mongo_command.specs.Command.{version_text}
@@ -76,6 +76,10 @@ variables_in d = option_and_then variables_of (as_array d)
 
 -- ---- the keys together
 
+-- whether the server is behind a load balancer: not where the key is absent
+abbrev pub load_balanced_in : Data → Option Bool
+load_balanced_in d = or_absent false (optional load_balanced_key as_bool d)
+
 unfoldable pub environment_in : Data → Option Environment
 environment_in d = do
   variables ← optional environment_key variables_in d
@@ -85,7 +89,7 @@ environment_in d = do
 unfoldable pub client_options_in : Data → Option ClientOptions
 client_options_in d = do
   server_api ← optional server_api_key server_api_in d
-  load_balanced ← optional load_balanced_key as_bool d
+  load_balanced ← load_balanced_in d
   platform ← or_absent default_platform (optional platform_setting_key as_str d)
   platform_short ← or_absent default_platform_short (optional platform_short_key as_str d)
   environment ← environment_in d
@@ -96,7 +100,7 @@ client_options_in d = do
     app_name = app_name;
     driver_info = driver_info;
     server_api = server_api;
-    load_balanced = unwrap_or load_balanced false;
+    load_balanced = load_balanced;
     os = os;
     platform = platform;
     platform_short = platform_short;

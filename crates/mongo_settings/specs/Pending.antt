@@ -1,9 +1,9 @@
 -- What settings say of the connection that is asked for.
-use Rattle.std.specs.Prelude.{ℕ, false, if◌then◌else◌, Option, None, Some, option_map, option_and_then, unwrap_or, List, []}
+use Rattle.std.specs.Prelude.{ℕ, if◌then◌else◌, Option, None, Some, option_map, option_and_then, unwrap_or, List, []}
 use Rattle.std.specs.Result.{result_ok}
 use Rattle.hex.specs.Hex.{decode_sized}
 use Rattle.serde_json.specs.Data.{Data, Members, no_members, member}
-use Rattle.serde_json.specs.Find.{as_str, as_bool, as_object}
+use Rattle.serde_json.specs.Find.{as_str, as_object}
 use Rattle.mongo_bson.specs.declared.raw_value.ObjectId.{ObjectId}
 use Rattle.mongo_command.specs.declared.server_address.ServerAddress.{ServerAddress}
 use Rattle.mongo_command.specs.declared.server_address.ServerAddress.TheVariants.{Tcp, Unix}
@@ -11,8 +11,9 @@ use Rattle.mongo_establish.specs.declared.establisher.PendingConnection.{Pending
 use Rattle.mongo_establish.specs.declared.generation.PoolGeneration.{PoolGeneration}
 use Rattle.mongo_establish.specs.declared.generation.PoolGeneration.TheVariants.{Normal, LoadBalanced}
 use Rattle.mongo_establish.specs.Generation.{Numbers, with_number}
-use Rattle.mongo_settings.specs.Keys.{host_key, port_key, unix_key, pool_id_key, generation_key, load_balanced_key, generations_key}
+use Rattle.mongo_settings.specs.Keys.{host_key, port_key, unix_key, pool_id_key, generation_key, generations_key}
 use Rattle.mongo_settings.specs.Kinds.{◌>>=◌, optional, port_in, uint32_in}
+use Rattle.mongo_settings.specs.Options.{load_balanced_in}
 
 -- a host, perhaps with a port, or the path of a Unix socket, beside which a port says nothing; one of the two, and not both
 abbrev pub address_of : Option (List ℕ) → Option ℕ → Option (List ℕ) → Option ServerAddress
@@ -47,9 +48,9 @@ generations_in d = option_and_then (with_members []) (as_object d)
 unfoldable pub generation_in : Data → Option PoolGeneration
 generation_in d = do
   number ← optional generation_key uint32_in d
-  load_balanced ← optional load_balanced_key as_bool d
+  load_balanced ← load_balanced_in d
   generations ← optional generations_key generations_in d
-  Some (if unwrap_or load_balanced false then LoadBalanced (unwrap_or generations []) else Normal (unwrap_or number 0))
+  Some (if load_balanced then LoadBalanced (unwrap_or generations []) else Normal (unwrap_or number 0))
 
 unfoldable pub pending_in : Data → Option PendingConnection
 pending_in d = do

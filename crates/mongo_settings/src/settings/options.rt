@@ -4,7 +4,7 @@ ghost use Rattle.serde_json.specs.View.{view};
 ghost use Rattle.serde_json.specs.Find.{as_str};
 ghost use Rattle.mongo_settings.specs.Keys.{os_setting_key};
 ghost use Rattle.mongo_settings.specs.Kinds.{optional, or_absent, Means};
-ghost use Rattle.mongo_settings.specs.Options.{default_os, os_in};
+ghost use Rattle.mongo_settings.specs.Options.{default_os, load_balanced_in, os_in};
 
 use crate::settings::reading::{SettingValue, judge_object, optional, required};
 use crate::settings::{SettingsError, keys};
@@ -23,7 +23,7 @@ impl SettingValue for ClientOptions {
     #[tactic(auto, unfolding(crate::specs::Options::client_options_in))]
     fn read(alloc: Global, value: &Value) -> Result<ClientOptions, SettingsError> {
         let server_api = optional::<ServerApi>(alloc, value, keys::SERVER_API)?;
-        let load_balanced = optional::<bool>(alloc, value, keys::LOAD_BALANCED)?;
+        let load_balanced = is_load_balanced(alloc, value)?;
         let platforms = both(
             text_or(alloc, value, keys::PLATFORM, "rattle / sync"),
             text_or(alloc, value, keys::PLATFORM_SHORT, "rattle"),
@@ -42,13 +42,21 @@ impl SettingValue for ClientOptions {
             app_name,
             driver_info,
             server_api,
-            load_balanced: load_balanced.unwrap_or(false),
+            load_balanced,
             os,
             platform,
             platform_short,
             environment,
         })
     }
+}
+
+/// Whether the server is behind a load balancer: not where the object hasn't the key.
+pub fn is_load_balanced(alloc: Global, object: &Value) -> Result<bool, SettingsError>
+    ensures { Means (λ b. b) result (load_balanced_in (view object.now)) }
+{
+    let load_balanced = optional::<bool>(alloc, object, keys::LOAD_BALANCED)?;
+    Ok(load_balanced.unwrap_or(false))
 }
 
 // The text of a key, or this one where the object hasn't the key.

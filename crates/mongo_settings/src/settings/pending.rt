@@ -4,6 +4,7 @@ ghost use Rattle.serde_json.specs.View.{members_view};
 ghost use Rattle.mongo_settings.specs.Kinds.{Means};
 ghost use Rattle.mongo_settings.specs.Pending.{service_in, with_members};
 
+use crate::settings::options::is_load_balanced;
 use crate::settings::reading::{SettingValue, optional};
 use crate::settings::{SettingsError, keys};
 use hex::FromHex;
@@ -61,9 +62,9 @@ impl SettingValue for PoolGeneration {
     #[tactic(auto, unfolding(crate::specs::Pending::generation_in))]
     fn read(alloc: Global, value: &Value) -> Result<PoolGeneration, SettingsError> {
         let number = optional::<u32>(alloc, value, keys::GENERATION)?;
-        let load_balanced = optional::<bool>(alloc, value, keys::LOAD_BALANCED)?;
+        let load_balanced = is_load_balanced(alloc, value)?;
         let generations = optional::<Generations>(alloc, value, keys::GENERATIONS)?;
-        if load_balanced.unwrap_or(false) {
+        if load_balanced {
             Ok(PoolGeneration::LoadBalanced(generations.unwrap_or(Generations::new(alloc))))
         } else {
             Ok(PoolGeneration::Normal(number.unwrap_or(0)))

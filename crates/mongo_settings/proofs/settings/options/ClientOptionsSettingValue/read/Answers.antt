@@ -41,8 +41,8 @@ pub returns-in_err-texts : goal.returns-in_err-texts
 unfolding client_options_in
 returns-in_err-texts c =
     let platforms = both_mean (platform_of (view c.args.value.now)) (platform_short_of (view c.args.value.now)) _ _ c.both-platforms.result c.both-platforms.ensures.values c.both-platforms.ensures.fault c.text_or.ensures c.text_or-2.ensures in
-    let client = both_mean (environment_in (view c.args.value.now)) (app_name_of (view c.args.value.now)) _ _ c.both-client.result c.both-client.ensures.values c.both-client.ensures.fault c.read.ensures c.optional-3.ensures in
-    let library = both_mean (driver_info_of (view c.args.value.now)) (os_of (view c.args.value.now)) _ _ c.both-library.result c.both-library.ensures.values c.both-library.ensures.fault c.optional-4.ensures c.os_or_default.ensures in
+    let client = both_mean (environment_in (view c.args.value.now)) (app_name_of (view c.args.value.now)) _ _ c.both-client.result c.both-client.ensures.values c.both-client.ensures.fault c.read.ensures c.optional-2.ensures in
+    let library = both_mean (driver_info_of (view c.args.value.now)) (os_of (view c.args.value.now)) _ _ c.both-library.result c.both-library.ensures.values c.both-library.ensures.fault c.optional-3.ensures c.os_or_default.ensures in
     let texts = both_mean (platforms_of (view c.args.value.now)) (client_of (view c.args.value.now)) _ _ c.both.result c.both.ensures.values c.both.ensures.fault platforms client in
     let all = both_mean (paired (platforms_of (view c.args.value.now)) (client_of (view c.args.value.now))) (library_of (view c.args.value.now)) _ _ c.both-2.result c.both-2.ensures.values c.both-2.ensures.fault texts library in
     let p = err_from_is_err_and c.from_residual-in_err-texts.result c.from_residual-in_err-texts.ensures.1 in
@@ -54,8 +54,8 @@ pub returns : goal.returns
 unfolding client_options_in
 returns c =
     let platforms = both_mean (platform_of (view c.args.value.now)) (platform_short_of (view c.args.value.now)) _ _ c.both-platforms.result c.both-platforms.ensures.values c.both-platforms.ensures.fault c.text_or.ensures c.text_or-2.ensures in
-    let client = both_mean (environment_in (view c.args.value.now)) (app_name_of (view c.args.value.now)) _ _ c.both-client.result c.both-client.ensures.values c.both-client.ensures.fault c.read.ensures c.optional-3.ensures in
-    let library = both_mean (driver_info_of (view c.args.value.now)) (os_of (view c.args.value.now)) _ _ c.both-library.result c.both-library.ensures.values c.both-library.ensures.fault c.optional-4.ensures c.os_or_default.ensures in
+    let client = both_mean (environment_in (view c.args.value.now)) (app_name_of (view c.args.value.now)) _ _ c.both-client.result c.both-client.ensures.values c.both-client.ensures.fault c.read.ensures c.optional-2.ensures in
+    let library = both_mean (driver_info_of (view c.args.value.now)) (os_of (view c.args.value.now)) _ _ c.both-library.result c.both-library.ensures.values c.both-library.ensures.fault c.optional-3.ensures c.os_or_default.ensures in
     let texts = both_mean (platforms_of (view c.args.value.now)) (client_of (view c.args.value.now)) _ _ c.both.result c.both.ensures.values c.both.ensures.fault platforms client in
     let two = paired_parts (platforms_of (view c.args.value.now)) (client_of (view c.args.value.now)) c.in_ok-texts.texts (subst (λ r. Means (λ v. v) r (paired (platforms_of (view c.args.value.now)) (client_of (view c.args.value.now)))) c.in_ok-texts.ensures.values.0 texts) in
     let of_platforms = paired_parts (platform_of (view c.args.value.now)) (platform_short_of (view c.args.value.now)) c.in_ok-texts.texts.0 two.0 in
