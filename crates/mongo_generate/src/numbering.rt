@@ -41,8 +41,8 @@ fn numbered_login(alloc: Global, number: u32) -> Result<UserLogin, Error>
     ensures nonces { IfOk result (λ login. login.inputs.nonces ≡ nonces_at number) }
     ensures refused { IfErr result (λ e. e.kind ≡ OutOfMemory) }
 {
-    let username = lettered(alloc, "u", number % 7)?;
-    let password = lettered(alloc, "p", number % 3)?;
+    let username = username_at(alloc, number)?;
+    let password = password_at(alloc, number)?;
     let nonces = Nonces {
         first: [(number % 256) as u8; 32],
         second: [((number % 256 + 1) % 256) as u8; 32],
@@ -83,8 +83,8 @@ fn numbered_server<G: Ledger>(
     ensures cost { OnOk result (steps.new ≡ steps.old + 4096) }
     ensures steps { steps.old ≤ steps.new }
 {
-    let username = lettered(alloc, "u", number % 7)?;
-    let password = lettered(alloc, "p", number % 3)?;
+    let username = username_at(alloc, number)?;
+    let password = password_at(alloc, number)?;
     let user = ServerUser::new(
         alloc,
         version_at(number),
@@ -105,6 +105,20 @@ fn version_at(number: u32) -> ScramVersion
     } else {
         ScramVersion::Sha256
     }
+}
+
+fn username_at(alloc: Global, number: u32) -> Result<Text, BsonFault>
+    ensures text { IfOk result (λ text. text ≡ (authentication_at number).username) }
+    ensures refused { IfErr result (λ fault. fault ≡ BsonFault.OutOfMemory) }
+{
+    lettered(alloc, "u", number % 7)
+}
+
+fn password_at(alloc: Global, number: u32) -> Result<Text, BsonFault>
+    ensures text { IfOk result (λ text. text ≡ (authentication_at number).password) }
+    ensures refused { IfErr result (λ fault. fault ≡ BsonFault.OutOfMemory) }
+{
+    lettered(alloc, "p", number % 3)
 }
 
 // A letter and a number.
