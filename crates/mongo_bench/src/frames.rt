@@ -28,10 +28,9 @@ pub fn run_frames<W: Write>(
     ensures work { result.status ≡ BenchStatus.Done → result.work ≡ work_of_frames direction count }
     ensures ran { result.status ≢ BenchStatus.Usage }
 {
-    // The frames are of the grammar and the memory never fails, so nothing but want of memory is refused.
     match pass_frames(alloc, direction, size, count) {
         Ok(passed) => RanTask::written(write_number(passed.last, out), passed.work),
-        Err(_) => RanTask::without_memory(),
+        Err(error) => RanTask::refused(&error),
     }
 }
 

@@ -30,10 +30,9 @@ pub fn run_inserts<W: Write>(alloc: Global, count: u32, out: &mut W) -> RanTask
     ensures work { result.status ≡ BenchStatus.Done → result.work ≡ only_built count }
     ensures ran { result.status ≢ BenchStatus.Usage }
 {
-    // The keys hold no zero and the command is short, so nothing but want of memory is refused.
     match build(alloc, count) {
         Ok(passed) => RanTask::written(write_number(passed.last, out), passed.work),
-        Err(_) => RanTask::without_memory(),
+        Err(error) => RanTask::refused(&error),
     }
 }
 

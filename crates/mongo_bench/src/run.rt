@@ -11,6 +11,7 @@ use crate::task::{BenchTask, EXAMPLE_PASSWORD, EXAMPLE_SALT, Hash, task_of};
 use crate::walking::{run_document, run_walk};
 use crate::work::Work;
 use mongo_mac::{Sha1Fn, Sha256Fn, Steps, Tag, hi};
+use mongo_wire::{Error, ErrorKind};
 use std::alloc::Global;
 use std::io;
 use std::io::Write;
@@ -21,6 +22,8 @@ use std::sync::ledger::{Blank, Ledger};
 pub enum BenchStatus {
     /// The task was run and its line written.
     Done,
+    /// The library refused what the task gave it.
+    Refused,
     /// The words ask for no task.
     Usage,
     /// The writer failed.
@@ -36,6 +39,7 @@ impl BenchStatus {
     {
         match self {
             BenchStatus::Done => 0,
+            BenchStatus::Refused => 1,
             BenchStatus::Usage => 3,
             BenchStatus::SinkFault => 5,
             BenchStatus::NoMemory => 6,
@@ -73,6 +77,21 @@ impl RanTask {
         RanTask {
             status: BenchStatus::NoMemory,
             work: Work::nothing(),
+        }
+    }
+
+    /// The end of a run in which the library refused a call, for want of memory or for another cause.
+    pub fn refused(error: &Error) -> RanTask
+        ensures memory { (result.status ≡ BenchStatus.NoMemory) ↔ (error.now.kind ≡ ErrorKind.OutOfMemory) }
+        ensures other { result.status ≢ BenchStatus.NoMemory → result.status ≡ BenchStatus.Refused }
+        ensures work { result.work ≡ nothing_done }
+    {
+        match error.kind {
+            ErrorKind::OutOfMemory => RanTask::without_memory(),
+            _ => RanTask {
+                status: BenchStatus::Refused,
+                work: Work::nothing(),
+            },
         }
     }
 }

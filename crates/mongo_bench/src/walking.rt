@@ -10,6 +10,7 @@ use crate::task::{BenchTask, DocumentShape, Pass};
 use crate::work::{Work, iterate, judge};
 use itoa::Buffer;
 use mongo_bson::{RawDocument, RawValue};
+use mongo_wire::Error;
 use std::alloc::Global;
 use std::io;
 use std::io::Write;
@@ -30,10 +31,10 @@ pub fn run_walk<W: Write>(
     ensures work { result.status ≡ BenchStatus.Done → result.work ≡ work_of_pass pass count }
     ensures ran { result.status ≢ BenchStatus.Usage }
 {
-    let Ok(document) = document_of_shape(alloc, shape) else {
-        return RanTask::without_memory();
-    };
-    walk(document.borrow(), pass, count, out)
+    match document_of_shape(alloc, shape) {
+        Ok(document) => walk(document.borrow(), pass, count, out),
+        Err(fault) => RanTask::refused(&Error::from(fault)),
+    }
 }
 
 /// Passes over the document so often, and writes what the last pass found.
@@ -61,10 +62,10 @@ pub fn run_document<W: Write>(alloc: Global, shape: DocumentShape, out: &mut W) 
     ensures work { result.work ≡ nothing_done }
     ensures ran { result.status ≢ BenchStatus.Usage }
 {
-    let Ok(document) = document_of_shape(alloc, shape) else {
-        return RanTask::without_memory();
-    };
-    RanTask::written(write_bytes(document.as_bytes(), out), Work::nothing())
+    match document_of_shape(alloc, shape) {
+        Ok(document) => RanTask::written(write_bytes(document.as_bytes(), out), Work::nothing()),
+        Err(fault) => RanTask::refused(&Error::from(fault)),
+    }
 }
 
 /// How many elements stand in the document and in the documents and arrays inside it, down to 100 levels, up to the first

@@ -14,7 +14,7 @@ use mongo_establish::{
     Bytes, DEFAULT_PORT, Error, MemoryLink, PooledConnection, ServerAddress, Steps,
 };
 use pool::Pool;
-use recorded::{Recorded, recording_at};
+use recorded::{Recorded, recordings};
 use std::alloc::{AllocError, Global};
 use std::marker::Brand;
 use std::process::ExitCode;
@@ -50,8 +50,8 @@ fn lines_of_two<G: Ledger>(
     steps: &mut Steps<G>,
 ) -> Result<String, Error> {
     let mut lines = String::new(alloc);
-    for place in 0..2 {
-        let line = connect(alloc, pool, &recording_at(place), steps)?;
+    for server in &recordings() {
+        let line = connect(alloc, pool, server, steps)?;
         lines.push_str(line.as_str())?;
     }
     Ok(lines)

@@ -9,12 +9,9 @@ pub struct Recorded {
     pub inputs: LoginInputs,
 }
 
-/// The first connection, or the second.
-pub fn recording_at(place: u8) -> Recorded {
-    match place {
-        0 => recording_of(FIRST, 0),
-        _ => recording_of(SECOND, 2),
-    }
+/// What was recorded of two connections, in the order in which they were made.
+pub fn recordings() -> [Recorded; 2] {
+    [recording_of(FIRST, 0), recording_of(SECOND, 2)]
 }
 
 // The replies to a login whose nonces are 32 times this byte, and 32 times the byte after it.
