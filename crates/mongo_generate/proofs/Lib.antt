@@ -7,5 +7,7 @@ pub mod ReplySizes
 pub mod Keys
 pub mod SoFar
 pub mod Numbered
+pub mod Greeted
+pub mod Accepted
 pub mod Meeting
 pub mod Outcomes

@@ -9,7 +9,6 @@ use Rattle.mongo_wire.specs.Message.{written_frame}
 use Rattle.mongo_wire.specs.declared.error.ErrorKind.{ErrorKind}
 use Rattle.mongo_command.specs.Command.{admin}
 use Rattle.mongo_command.specs.Conversation.{Said, ends, exchanged, HasNone, IsSendable, plain_message, ending}
-use Rattle.mongo_command.specs.Hello.{description_of}
 use Rattle.mongo_command.proofs.Ends.{PlanEnds, ends_both}
 use Rattle.mongo_command.proofs.OneSaid.{framed_sendable}
 use Rattle.mongo_sasl.specs.declared.credential.Credential.{Credential}
@@ -42,7 +41,7 @@ use Rattle.mongo_establish.specs.Options.{default_max_iterations}
 use Rattle.mongo_establish.specs.Plan.{hello_said, hello_plan}
 use Rattle.mongo_establish.specs.Script.{Script, IsLoginBy, IsScript, HasScript}
 use Rattle.mongo_establish.specs.Speculation.{MechanismRow, HelloRow, speculative_message, speculative_nonce, answer_to}
-use Rattle.mongo_establish.specs.Spoken.{conversation_of, HasConversation}
+use Rattle.mongo_establish.specs.Spoken.{conversation_of}
 use Rattle.mongo_establish.proofs.HelloPlan.{greeting_ends}
 use Rattle.mongo_server.specs.Announced.{maximum_message_length}
 use Rattle.mongo_server.specs.Acceptance.{IsClientOf, IsAccepted, challenge_of}
@@ -50,10 +49,11 @@ use Rattle.mongo_server.specs.Authentication.{Authentication, joined_of, first_o
 use Rattle.mongo_generate.specs.Acceptance.{AreAuthenticationReplies}
 use Rattle.mongo_generate.specs.Login.{IsPossible, credential_by, key_of}
 use Rattle.mongo_generate.specs.Options.{handshaker_options}
-use Rattle.mongo_generate.specs.Replies.{speculative_elements, standalone_elements, final_elements, hello_reply, final_reply}
-use Rattle.mongo_command.specs.Literal.{document_of}
+use Rattle.mongo_generate.specs.Replies.{final_elements, hello_reply, final_reply}
 use Rattle.mongo_generate.specs.Written.{CarriesPayloadLast}
-use Rattle.mongo_generate.proofs.ServerReplies.{conversation, standalone, speculative_says, hello_says, final_says}
+use Rattle.mongo_generate.proofs.Greeted.{answer_of, greeting_of, short_in, greets_by}
+use Rattle.mongo_generate.proofs.Accepted.{has_scram}
+use Rattle.mongo_generate.proofs.ServerReplies.{conversation, speculative_says, final_says}
 use Rattle.mongo_generate.proofs.Sizes.{setup_by_client, speculation_is, length_hello, framed_hello, close_document, length_close_document, close_carries, framed_close, command_frame_of, frame_within, body_within}
 use Rattle.mongo_generate.proofs.Texts.{length_close}
 
@@ -63,10 +63,6 @@ use Rattle.mongo_generate.proofs.Texts.{length_close}
 row_by : (version : ScramVersion) (credential : Credential) (kind : ErrorKind) → MechanismRow (mechanism_of version) credential kind → CredentialRow credential kind
 row_by Sha1 credential kind row = row
 row_by Sha256 credential kind row = row
-
-has_scram : (version : ScramVersion) → HasConversation (mechanism_of version) (Scram version)
-has_scram Sha1 = refl
-has_scram Sha256 = refl
 
 -- which was answered in the hello, so that its mechanism isn't asked whether it takes the credential
 login_answered_in_hello : (version : ScramVersion) (setup : Setup) (credential : Credential) (greeting : Greeting) (given : List ℕ) (commands replies : List (List ℕ)) → speculative_reply setup greeting ≡ Some given → IsScramLogin (scram_handed_by version setup credential greeting) commands replies
@@ -101,7 +97,7 @@ module _ (pending : PendingConnection) (x : Authentication) (nonces : Nonces) (b
 
   -- what the server answers to the login that went with the hello
   abbrev inner : List ℕ
-  inner = document_of (speculative_elements (first_of x))
+  inner = answer_of (first_of x)
 
   abbrev hello_heard : List ℕ
   hello_heard = hello_reply (first_of x)
@@ -110,7 +106,7 @@ module _ (pending : PendingConnection) (x : Authentication) (nonces : Nonces) (b
   final_heard = final_reply (server_final_of x)
 
   abbrev greeting : Greeting
-  greeting = record { document = hello_heard; description = description_of pending.address (standalone inner); speculative = Some inner; connection_id = None }
+  greeting = greeting_of pending.address (first_of x)
 
   abbrev handed : Handed
   handed = scram_handed_by x.version setup credential greeting
@@ -122,12 +118,8 @@ module _ (pending : PendingConnection) (x : Authentication) (nonces : Nonces) (b
   said_close = close_said handed close_heard
 
   -- the server's texts are no longer than its frames
-  short_first : length (first_of x) < 2 ^ 29
-  unfolding hello_reply
-  short_first =
-      let is = heard.replies.hello_is in
-      let within = is.within in
-      omega (arith, ints, body_within heard.replies.hello is.parts is.is_frame, ap length is.body_is, length-document_of (standalone_elements (first_of x)), length-document_of (speculative_elements (first_of x)))
+  short_first : length (first_of x) < 2 ^ 26
+  short_first = short_in (first_of x) heard.replies.hello heard.replies.hello_is
 
   short_final : length (server_final_of x) < 2 ^ 30
   unfolding final_reply
@@ -142,7 +134,7 @@ module _ (pending : PendingConnection) (x : Authentication) (nonces : Nonces) (b
   -- ---- what the client is handed
 
   replied : speculative_reply setup greeting ≡ Some inner
-  replied = ap (λ s. answer_to s (Some inner)) (speculation_is x.version x.username x.password nonces.first)
+  replied = ap (λ s. answer_to s (Some inner)) (speculation_is x.version credential nonces.first refl)
 
   abbrev speculated : Speculated
   speculated = record { message = speculative_message credential nonces.first; nonce = speculative_nonce nonces.first; reply = inner }
@@ -184,7 +176,7 @@ module _ (pending : PendingConnection) (x : Authentication) (nonces : Nonces) (b
   made kind row = no_credential_row credential user is_user kind (row_by x.version credential kind row)
 
   greets : Greets setup.pending.address hello_heard greeting
-  greets = (refl, record { response = standalone inner; time = None; reads = hello_says (first_of x) short_first; taken = (tt, tt); description_is = refl; speculative_is = refl; connection_id_is = refl })
+  greets = greets_by pending.address (first_of x) (omega (arith, short_first))
 
   pub first_frame : List ℕ
   first_frame = written_frame (pos 0) (plain_message (hello_document setup))

@@ -1,5 +1,5 @@
 -- What an establishment over the replies of an authentication comes to: the script, and nothing else.
-use Rattle.std.proofs.Common.{◌≡◌, ◌⊎◌, ℕ, ℤ, pos, ◌∙◌, sym, subst, inl, inr, true, false, Option, None, Some, Result, Ok, Err, IfOk, IfErr, List, [], arith}
+use Rattle.std.proofs.Common.{◌≡◌, ◌⊎◌, ℕ, ℤ, pos, ◌∙◌, sym, subst, inl, inr, true, false, IsTrue, Option, None, Some, Result, Ok, Err, IfOk, IfErr, List, [], arith}
 use Rattle.std.specs.Io.KnownBytes.{Appends}
 use Rattle.mongo_wire.specs.Outside.{State, Rose}
 use Rattle.mongo_wire.specs.declared.error.ErrorKind.{ErrorKind}
@@ -8,6 +8,7 @@ use Rattle.mongo_scram.proofs.Derived.{costs_nothing}
 use Rattle.mongo_scram.specs.declared.cache.SaltedCache.{SaltedCache}
 use Rattle.mongo_scram.specs.declared.cache.SaltedKey.{SaltedKey}
 use Rattle.mongo_scram.specs.Cache.{entries_of, Adds}
+use Rattle.mongo_scram.specs.Commands.{is_scram}
 use Rattle.mongo_scram.specs.Costs.{Ledgers, ledgers, SameEntries}
 use Rattle.mongo_scram.specs.Entry.{salted_of}
 use Rattle.mongo_establish.specs.declared.establisher.EstablishError.{EstablishError}
@@ -27,8 +28,10 @@ use Rattle.mongo_generate.specs.declared.user_login.UserLogin.{UserLogin}
 use Rattle.mongo_generate.specs.Acceptance.{IsAcceptedAs, AreAuthenticationReplies}
 use Rattle.mongo_generate.specs.Login.{IsAuthenticationClient, KeepsEntries, key_of}
 use Rattle.mongo_generate.specs.Options.{handshaker_options}
-use Rattle.mongo_generate.specs.Written.{CarriesPayloadLast}
+use Rattle.mongo_generate.specs.Replies.{AreServerReplies}
+use Rattle.mongo_generate.specs.Written.{CarriesPayloadLast, CarriesAnyLast}
 use Rattle.mongo_generate.proofs.Sizes.{setup_by_client}
+use Rattle.mongo_generate.proofs.Accepted.{version_in, script_carries}
 use Rattle.mongo_generate.proofs.Meeting.{has_script, carries, sent_is, leads_to_key}
 
 -- the link doesn't fail
@@ -85,6 +88,18 @@ module _ (pending : PendingConnection) (options : HandshakerOptions) (first_id :
   accepted_takes (Err e) before after is costs = absurd is
 
 -- ---- whatever comes of it
+
+-- what a connection's establishment wrote over a server's replies carries the client's last message, whoever the server's user is
+pub accepted_carries : (pending : PendingConnection) (options : HandshakerOptions) (first_id : ℤ) (login : UserLogin) (bytes : List ℕ) → AreServerReplies bytes → options ≡ handshaker_options → IsTrue (is_scram login.credential.mechanism) → login.credential.source ≡ None
+    → (ended : Result PooledConnection EstablishError) (old new : State) (after : ℤ) (earlier later : Ledgers) (written : List ℕ) → IsAcceptedAs ended true → IfOk ended (Established (setup_for pending options (Some login.credential) login.inputs.nonces first_id) old new after earlier later) → old.left ≡ Some bytes → old.written ≡ Some [] → new.written ≡ Some written → CarriesAnyLast written
+accepted_carries pending options first_id login bytes (server_first, server_final, replies) usual scram of_admin (Ok pooled) old new after earlier later written is e told nothing all =
+    let there = subst (λ o. Established (setup_for pending o (Some login.credential) login.inputs.nonces first_id) old new after earlier later pooled) usual e in
+    let s = there.scripted in
+    let t = s.taken bytes told in
+    let (version, given) = version_in login.credential.mechanism scram in
+    let grown : Appends (Some []) (Some written) s.sent = subst (λ w. Appends w (Some written) s.sent) nothing (subst (λ w. Appends old.written w s.sent) all s.written) in
+    subst CarriesAnyLast (sym grown) (script_carries pending login.credential version given of_admin login.inputs.nonces first_id server_first server_final bytes replies there.script s.sent t.taken t.rest s.is_script s.is_written t.joined t.is_taken)
+accepted_carries pending options first_id login bytes replies usual scram of_admin (Err e) old new after earlier later written is none told nothing all = absurd is
 
 abbrev AddsOne : Ledgers → Ledgers → Type 0
 AddsOne first last = (key : SaltedKey) × Adds (entries_of first.cache) (entries_of last.cache) (key, salted_of key)

@@ -19,13 +19,14 @@ use Rattle.mongo_command.specs.Conversation.{plain_message}
 use Rattle.mongo_command.specs.Field.{Required}
 use Rattle.mongo_command.specs.Literal.{text_element, document_element, document_of}
 use Rattle.mongo_command.specs.Keys.{db_key, speculative_authenticate_key}
+use Rattle.mongo_sasl.specs.declared.credential.Credential.{Credential}
 use Rattle.mongo_sasl.specs.declared.mechanism.AuthMechanism.TheVariants.{ScramSha1, ScramSha256}
 use Rattle.mongo_sasl.specs.Commands.{start_elements, continue_elements}
 use Rattle.mongo_sasl.specs.Keys.{conversation_id_key, payload_key, sasl_continue_key}
 use Rattle.mongo_scram.specs.declared.scram_version.ScramVersion.{ScramVersion}
 use Rattle.mongo_scram.specs.declared.scram_version.ScramVersion.TheVariants.{Sha1, Sha256}
 use Rattle.mongo_scram.specs.Base64.{base64_of}
-use Rattle.mongo_scram.specs.Commands.{db_elements, final_command}
+use Rattle.mongo_scram.specs.Commands.{mechanism_of, db_elements, final_command}
 use Rattle.mongo_scram.specs.Messages.{open_message}
 use Rattle.mongo_meta.specs.Client.{fits, forms, with_short_platform, client_of}
 use Rattle.mongo_meta.specs.Metadata.{metadata_document}
@@ -35,7 +36,7 @@ use Rattle.mongo_establish.specs.declared.establisher.PendingConnection.{Pending
 use Rattle.mongo_establish.specs.declared.login_state.Nonces.{Nonces}
 use Rattle.mongo_establish.specs.Setup.{Setup, setup_for}
 use Rattle.mongo_establish.specs.Client.{metadata_key, with_document, common_hello, speculating, introducing, login_hello, hello_document}
-use Rattle.mongo_establish.specs.Speculation.{scram_speculation, speculation}
+use Rattle.mongo_establish.specs.Speculation.{mechanism_before, scram_speculation, speculation_by, speculation}
 use Rattle.mongo_server.specs.Announced.{conversation_id}
 use Rattle.mongo_server.specs.Authentication.{Authentication}
 use Rattle.mongo_generate.specs.Login.{IsPossible, credential_by}
@@ -90,9 +91,12 @@ length_arguments : length (flat_map spell (argument_elements (common_hello hands
 unfolding handshaker_options
 length_arguments = omega arith
 
-pub speculation_is : (version : ScramVersion) (username password nonce : List ℕ) → speculation (Some (credential_by version username password)) nonce ≡ Some (scram_speculation version (credential_by version username password) nonce)
-speculation_is Sha1 username password nonce = refl
-speculation_is Sha256 username password nonce = refl
+speculation_by_version : (version : ScramVersion) (credential : Credential) (nonce : List ℕ) → speculation_by (mechanism_of version) credential nonce ≡ Some (scram_speculation version credential nonce)
+speculation_by_version Sha1 credential nonce = refl
+speculation_by_version Sha256 credential nonce = refl
+
+pub speculation_is : (version : ScramVersion) (credential : Credential) (nonce : List ℕ) → credential.mechanism ≡ Some (mechanism_of version) → speculation (Some credential) nonce ≡ Some (scram_speculation version credential nonce)
+speculation_is version credential nonce given = ap (λ mechanism. speculation_by (mechanism_before mechanism) credential nonce) given ∙ speculation_by_version version credential nonce
 
 length_speculation : (version : ScramVersion) (username password nonce : List ℕ) → length (scram_speculation version (credential_by version username password) nonce) ≤ length (open_message username (base64_of nonce)) + 300
 length_speculation Sha1 username password nonce = omega (arith, length-document_of (start_elements ScramSha1 (open_message username (base64_of nonce)) ++ db_elements true admin))
@@ -115,7 +119,7 @@ length_hello pending x nonces possible nonce =
       arith,
       length_command (login_hello (setup_by_client pending x nonces)),
       length_introducing (speculating login common),
-      length_speculating login document common (speculation_is x.version x.username x.password nonces.first),
+      length_speculating login document common (speculation_is x.version credential nonces.first refl),
       length_arguments,
       length_common,
       length_speculation x.version x.username x.password nonces.first,

@@ -105,7 +105,7 @@ length_proof version salted auth_message =
     let key = client_key (digest_of version) salted in
     omega (arith, length_xor key (hmac_of (digest_of version) (digest_of version key) auth_message), length_key version salted)
 
-length_closing : (version : ScramVersion) (salted auth_message nonce : List ℕ) → length (close_message (digest_of version) salted auth_message nonce) ≤ length nonce + 100
+pub length_closing : (version : ScramVersion) (salted auth_message nonce : List ℕ) → length (close_message (digest_of version) salted auth_message nonce) ≤ length nonce + 100
 unfolding close_message no_proof
 length_closing version salted auth_message nonce =
     let owed = proof (digest_of version) salted auth_message in

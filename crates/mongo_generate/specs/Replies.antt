@@ -60,3 +60,7 @@ pub record AreReplies (server_first server_final bytes : List ℕ) : Type 0 wher
   pub joined : bytes ≡ hello ++ final
   pub hello_is : IsReply (hello_reply server_first) maximum_message_length hello
   pub final_is : IsReply (final_reply server_final) maximum_message_length final
+
+-- the bytes are the frames of some server's two replies
+abbrev pub AreServerReplies : List ℕ → Type 0
+AreServerReplies bytes = (server_first server_final : List ℕ) × AreReplies server_first server_final bytes

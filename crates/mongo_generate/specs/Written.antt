@@ -32,3 +32,7 @@ pub record CarriesPayloadLast (payload bytes : List ℕ) : Type 0 where
   pub second_is : IsFrame second second_parts
   pub second_within : pos (length second) ≤ℤ first_maximum
   pub carried : CarriesPayload payload second_parts.body
+
+-- the bytes are two such frames, whatever the payload
+abbrev pub CarriesAnyLast : List ℕ → Type 0
+CarriesAnyLast bytes = (payload : List ℕ) × CarriesPayloadLast payload bytes

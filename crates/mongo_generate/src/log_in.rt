@@ -1,11 +1,12 @@
 //! One login: a client against a server.
-ghost use Rattle.std.specs.Prelude.{◌≡◌, Some, IfSome, IfOk, OnOk, MatchOption};
+ghost use Rattle.std.specs.Prelude.{◌≡◌, None, Some, IfSome, IfOk, OnOk, MatchOption};
 ghost use Rattle.mongo_wire.specs.declared.error.ErrorKind.TheVariants.{OutOfMemory};
 ghost use Rattle.mongo_establish.specs.declared.generation.PoolGeneration.TheVariants.{Normal};
 ghost use Rattle.mongo_server.specs.Authentication.{Authentication, close_of};
 ghost use Rattle.mongo_server.specs.Server.{Serves, HasBegun};
 ghost use Rattle.mongo_generate.specs.Acceptance.{acceptance_of, IsAcceptedAs, IsTakenBy, AreAuthenticationReplies};
 ghost use Rattle.mongo_generate.specs.Login.{IsAuthenticationClient};
+ghost use Rattle.mongo_generate.specs.Replies.{AreServerReplies};
 
 use crate::replies::replies_of;
 use crate::written::client_final;
@@ -28,7 +29,8 @@ impl Client {
     ghost use Rattle.mongo_server.specs.Server.{Serves};
     ghost use Rattle.mongo_generate.specs.Acceptance.{acceptance_of, IsTakenBy, AreAuthenticationReplies};
     ghost use Rattle.mongo_generate.specs.Login.{IsAuthenticationClient, KeepsEntries, key_of};
-    ghost use Rattle.mongo_generate.specs.Written.{CarriesPayloadLast};
+    ghost use Rattle.mongo_generate.specs.Replies.{AreServerReplies};
+    ghost use Rattle.mongo_generate.specs.Written.{CarriesPayloadLast, CarriesAnyLast};
 
     /// Establishes a connection over a link in memory whose replies carry the server's messages: hello with the login that
     /// goes with it, and the last exchange. The client's last message, as it was written, is then the server's to judge. None
@@ -65,7 +67,7 @@ impl Client {
         acceptance(alloc, server, client_final)
     }
 
-    // Logs in over a link that gives these replies. The client's last message, or None where the client refuses.
+    // Logs in over a link that gives these replies of a server. The client's last message, or None where the client refuses.
     fn close<G: Ledger>(
         &self,
         alloc: Global,
@@ -74,18 +76,19 @@ impl Client {
         state: &mut LoginState,
         steps: &mut Steps<G>,
     ) -> Result<Option<Bytes>, AllocError>
+        requires replies { AreServerReplies replies }
         ensures closes { (x : Authentication) → IsAuthenticationClient x login.now → AreAuthenticationReplies x replies → IfOk result (λ client_final. client_final ≡ Some (close_of x)) }
         ensures takes { (x : Authentication) → IsAuthenticationClient x login.now → AreAuthenticationReplies x replies → OnOk result (StoresKey (key_of x) (ledgers steps.old state.old.salted) (ledgers steps.new state.new.salted)) }
         ensures keeps { KeepsEntries (ledgers steps.old state.old.salted) (ledgers steps.new state.new.salted) }
         ensures steps { steps.old ≤ steps.new }
     {
         match self.establish(alloc, login, replies, state, steps)? {
-            Some(written) => client_final(alloc, written),
+            Some(written) => Ok(Some(client_final(alloc, written)?)),
             None => Ok(None),
         }
     }
 
-    // Logs in over a link that gives these replies. The bytes that were written, or None where the client refuses.
+    // Logs in over a link that gives these replies of a server. The bytes that were written, or None where the client refuses.
     fn establish<G: Ledger>(
         &self,
         alloc: Global,
@@ -94,6 +97,9 @@ impl Client {
         state: &mut LoginState,
         steps: &mut Steps<G>,
     ) -> Result<Option<Bytes>, AllocError>
+        requires replies { AreServerReplies replies }
+        // Whoever the server's user is, what was written carries the client's last message.
+        ensures carried { IfOk result (λ written. IfSome written CarriesAnyLast) }
         ensures written { (x : Authentication) → IsAuthenticationClient x login.now → AreAuthenticationReplies x replies → IfOk result (λ written. MatchOption written ⊥ (CarriesPayloadLast (close_of x))) }
         ensures takes { (x : Authentication) → IsAuthenticationClient x login.now → AreAuthenticationReplies x replies → OnOk result (StoresKey (key_of x) (ledgers steps.old state.old.salted) (ledgers steps.new state.new.salted)) }
         ensures keeps { KeepsEntries (ledgers steps.old state.old.salted) (ledgers steps.new state.new.salted) }
@@ -165,6 +171,7 @@ fn heard(
     login: &UserLogin,
     server: &mut ServerCore,
 ) -> Result<Option<Bytes>, AllocError>
+    ensures replies { IfOk result (λ replies. IfSome replies AreServerReplies) }
     ensures heard { (x : Authentication) → IsAuthenticationClient x login.now → Serves server.old x → IfOk result (λ replies. MatchOption replies ⊥ (AreAuthenticationReplies x)) }
     ensures begun { (x : Authentication) → IsAuthenticationClient x login.now → Serves server.old x → OnOk result (HasBegun server.new x) }
     ensures serves { (x : Authentication) → Serves server.old x → Serves server.new x }
@@ -188,6 +195,7 @@ fn heard(
 
 // No replies where a message doesn't fit into one; want of memory is handed on.
 fn no_replies(refusal: Error) -> Result<Option<Bytes>, AllocError>
+    ensures none { IfOk result (λ replies. replies ≡ None) }
     ensures too_long { OnOk result (refusal.kind ≡ OutOfMemory → ⊥) }
 {
     none_for(&refusal.kind)
@@ -195,6 +203,7 @@ fn no_replies(refusal: Error) -> Result<Option<Bytes>, AllocError>
 
 // By reference, for the same reason.
 fn none_for(kind: &ErrorKind) -> Result<Option<Bytes>, AllocError>
+    ensures none { IfOk result (λ replies. replies ≡ None) }
     ensures too_long { OnOk result (kind.now ≡ OutOfMemory → ⊥) }
 {
     match kind {

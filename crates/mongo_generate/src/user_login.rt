@@ -1,4 +1,4 @@
-ghost use Rattle.std.specs.Prelude.{◌≡◌, IsTrue};
+ghost use Rattle.std.specs.Prelude.{◌≡◌, None, IsTrue};
 ghost use Rattle.mongo_scram.specs.Commands.{is_scram};
 
 use mongo_bson::Text;
@@ -14,6 +14,7 @@ pub struct UserLogin {
     // The client's first message.
     pub(crate) client_first: Text,
     pub ghost scram: { IsTrue (is_scram credential.mechanism) },
+    pub ghost admin: { credential.source ≡ None },
 }
 
 // Dropped by a call, so that the proofs of its owners don't walk through its parts.

@@ -1,12 +1,12 @@
 //! What a client wrote.
-ghost use Rattle.std.specs.Prelude.{◌≡◌, ℕ, pos, ◌≤ℤ◌, List, ◌++◌, Some, length, IfOk, OnOk, MatchResult};
+ghost use Rattle.std.specs.Prelude.{◌≡◌, ℕ, pos, ◌≤ℤ◌, List, ◌++◌, length, IfOk, OnOk, MatchResult};
 ghost use Rattle.mongo_wire.specs.declared.fault.FrameFault.TheVariants.{OutOfMemory};
 ghost use Rattle.mongo_wire.specs.Buffer.{HoldsFrame};
 ghost use Rattle.mongo_wire.specs.Bytes.{first_maximum};
 ghost use Rattle.mongo_wire.specs.Frame.{Frame, IsFrame};
 ghost use Rattle.mongo_wire.specs.Memory.{bytes_left};
 ghost use Rattle.mongo_command.specs.Exchange.{HoldsReply};
-ghost use Rattle.mongo_generate.specs.Written.{IsBinaryOf, CarriesPayload, CarriesPayloadLast};
+ghost use Rattle.mongo_generate.specs.Written.{IsBinaryOf, CarriesPayload, CarriesPayloadLast, CarriesAnyLast};
 
 use mongo_bson::{Bytes, RawDocument, RawValue};
 use mongo_command::held_reply;
@@ -15,9 +15,10 @@ use mongo_sasl::keys::PAYLOAD;
 use mongo_wire::{FrameBuffer, FrameFault, MemoryLink};
 use std::alloc::{AllocError, Global};
 
-/// The client's last message: the payload of the command in the second frame. None where it has none.
-pub fn client_final(alloc: Global, written: Bytes) -> Result<Option<Bytes>, AllocError>
-    ensures found { (payload : List ℕ) → CarriesPayloadLast payload written → IfOk result (λ found. found ≡ Some payload) }
+/// The client's last message: the payload of the command in the second frame.
+pub fn client_final(alloc: Global, written: Bytes) -> Result<Bytes, AllocError>
+    requires carried { CarriesAnyLast written }
+    ensures found { (payload : List ℕ) → CarriesPayloadLast payload written → IfOk result (λ found. found ≡ payload) }
 {
     let mut link = MemoryLink::new(alloc, written);
     let mut buffer = FrameBuffer::new(alloc);
@@ -25,7 +26,8 @@ pub fn client_final(alloc: Global, written: Bytes) -> Result<Option<Bytes>, Allo
         Ok(()) => payload_of(alloc, held_reply(&buffer)),
         Err(fault) => match fault {
             FrameFault::OutOfMemory => Err(AllocError),
-            _ => Ok(None),
+            // both frames are there
+            _ => unreachable!(),
         },
     }
 }
@@ -55,25 +57,29 @@ fn take_next(link: &mut MemoryLink, buffer: &mut FrameBuffer) -> Result<(), Fram
 }
 
 // The bytes of the binary value under `payload`.
-fn payload_of(alloc: Global, document: RawDocument<'_>) -> Result<Option<Bytes>, AllocError>
-    ensures found { (payload : List ℕ) → CarriesPayload payload document.entry.bytes.now → IfOk result (λ found. found ≡ Some payload) }
+fn payload_of(alloc: Global, document: RawDocument<'_>) -> Result<Bytes, AllocError>
+    requires carried { (payload : List ℕ) × CarriesPayload payload document.bytes.now }
+    ensures found { (payload : List ℕ) → CarriesPayload payload document.entry.bytes.now → IfOk result (λ found. found ≡ payload) }
 {
     match document.get(PAYLOAD) {
         Ok(Some(value)) => binary_content(alloc, value),
-        Ok(None) => Ok(None),
-        Err(_) => Ok(None),
+        // it carries one
+        Ok(None) => unreachable!(),
+        // it is a document
+        Err(_) => unreachable!(),
     }
 }
 
 // The bytes of a binary value.
-fn binary_content(alloc: Global, value: RawValue<'_>) -> Result<Option<Bytes>, AllocError>
-    ensures found { (content : List ℕ) → IsBinaryOf content value.entry → IfOk result (λ found. found ≡ Some content) }
+fn binary_content(alloc: Global, value: RawValue<'_>) -> Result<Bytes, AllocError>
+    requires binary { (content : List ℕ) × IsBinaryOf content value }
+    ensures found { (content : List ℕ) → IsBinaryOf content value.entry → IfOk result (λ found. found ≡ content) }
 {
     let RawValue::Binary(_, content) = value else {
-        return Ok(None);
+        unreachable!()
     };
     match Bytes::from_slice(alloc, content) {
-        Ok(content) => Ok(Some(content)),
+        Ok(content) => Ok(content),
         Err(fault) => Err(want_of_memory(fault.into())),
     }
 }

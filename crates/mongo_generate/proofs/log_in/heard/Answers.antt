@@ -1,7 +1,7 @@
-use Rattle.std.proofs.Common.{◌≡◌, ◌∙◌, ◌^◌, ◌<◌, Result, Ok, Err, IfOk, OnOk, length, sym, subst}
+use Rattle.std.proofs.Common.{◌≡◌, ◌∙◌, ◌^◌, ◌<◌, Option, None, Some, IfSome, Result, Ok, Err, IfOk, OnOk, length, sym, subst}
 use Rattle.mongo_server.specs.Acceptance.{Accepts}
 use Rattle.mongo_server.specs.Authentication.{first_of, server_final_of, IsReadAs}
-use Rattle.mongo_generate.specs.Replies.{AreReplies}
+use Rattle.mongo_generate.specs.Replies.{AreReplies, AreServerReplies}
 use Rattle.mongo_generate.proofs.ReplySizes.{short_first, short_final}
 use Rattle.mongo_generate.proofs.log_in.heard.Goals as goal
 
@@ -30,3 +30,14 @@ returns-clause-heard c = λ x logs serves.
     let first : c.as_bytes-2.result.now ≡ first_of x = c.as_bytes-2.ensures ∙ one.0.text_is in
     let last : c.as_bytes-3.result.now ≡ server_final_of x = c.as_bytes-3.ensures ∙ two.0 in
     never _ c.no_replies.result c.no_replies.ensures.too_long (c.in-Err-replies_of.ensures.short (subst (λ t. length t < 2 ^ 24) (sym first) (short_first x logs.possible)) (subst (λ t. length t < 2 ^ 24) (sym last) (short_final x)))
+
+-- no replies are any server's
+if_any : {A E : Type 0} (P : A → Type 0) (r : Result (Option A) E) → IfOk r (λ replies. replies ≡ None) → IfOk r (λ replies. IfSome replies P)
+if_any P (Ok None) is = tt
+if_any P (Ok (Some a)) is = absurd (not_none a is) where
+  not_none : {A : Type 0} (a : A) → Some a ≡ None → ⊥
+  not_none a is = cc
+if_any P (Err e) is = tt
+
+pub returns-clause-replies : goal.returns-clause-replies
+returns-clause-replies c = if_any AreServerReplies c.no_replies.result c.no_replies.ensures.none

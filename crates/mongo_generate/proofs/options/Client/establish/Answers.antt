@@ -3,8 +3,12 @@ use Rattle.mongo_scram.specs.Costs.{ledgers}
 use Rattle.mongo_establish.specs.Options.{options_of_establisher}
 use Rattle.mongo_establish.proofs.Counting.{costs_some, some_rise}
 use Rattle.mongo_generate.specs.Acceptance.{IsAcceptedAs}
-use Rattle.mongo_generate.proofs.Outcomes.{no_fault, never_refused, has_its_script, accepted_writes, accepted_takes, keeps_entries, keeps_still}
+use Rattle.mongo_generate.proofs.Accepted.{speaks}
+use Rattle.mongo_generate.proofs.Outcomes.{no_fault, never_refused, has_its_script, accepted_writes, accepted_carries, accepted_takes, keeps_entries, keeps_still}
 use Rattle.mongo_generate.proofs.options.Client.establish.Goals as goal
+
+pub establish_connection-ended-requires : goal.establish_connection-ended-requires
+establish_connection-ended-requires g c = record { spoken = speaks c.args.login.now.credential.mechanism c.args.login.now.scram }
 
 pub returns-in_err-is_accepted-clause-steps : goal.returns-in_err-is_accepted-clause-steps
 returns-in_err-is_accepted-clause-steps g c =
@@ -38,6 +42,14 @@ returns-clause-written g c = λ x logs heard.
     let link = c.new-link in
     let told = ap Some (ap (λ n. drop n link.result.input.items) link.ensures.at ∙ link.ensures.input) in
     accepted_writes c.in_ok-pending.pending (options_of_establisher c.args.self.now.establisher) c.new-state.result x c.args.login.now c.args.replies logs heard c.in_ok-pending.ensures.generation c.args.self.now.options c.new-state.ensures
+    made.result _ _ _ _ _ c.into_written.result (subst (IsAcceptedAs made.result) c.if-not-branch.false c.in_ok-is_accepted.ensures) made.ensures.ended.established told (ap Some link.ensures.output) (ap Some (sym c.into_written.ensures))
+
+pub returns-clause-carried : goal.returns-clause-carried
+returns-clause-carried g c =
+    let made = c.establish_connection-ended in
+    let link = c.new-link in
+    let told = ap Some (ap (λ n. drop n link.result.input.items) link.ensures.at ∙ link.ensures.input) in
+    accepted_carries c.in_ok-pending.pending (options_of_establisher c.args.self.now.establisher) c.new-state.result c.args.login.now c.args.replies c.requires.replies c.args.self.now.options c.args.login.now.scram c.args.login.now.admin
     made.result _ _ _ _ _ c.into_written.result (subst (IsAcceptedAs made.result) c.if-not-branch.false c.in_ok-is_accepted.ensures) made.ensures.ended.established told (ap Some link.ensures.output) (ap Some (sym c.into_written.ensures))
 
 pub returns-clause-takes : goal.returns-clause-takes

@@ -1,4 +1,4 @@
-use Rattle.std.proofs.Common.{Some, IsTrue, refl, sym, subst}
+use Rattle.std.proofs.Common.{rules, Some, IsTrue, refl, sym, subst}
 use Rattle.mongo_sasl.specs.declared.credential.Credential.{Credential}
 use Rattle.mongo_scram.specs.Commands.{mechanism_of, is_scram}
 use Rattle.mongo_scram.specs.declared.scram_version.ScramVersion.{ScramVersion}
@@ -14,4 +14,5 @@ invariant_of-result c = record {
   scram =
       subst (λ (credential : Credential). IsTrue (is_scram credential.mechanism)) (sym c.mechanism-credential.ensures)
       (subst (λ mechanism. IsTrue (is_scram (Some mechanism))) (sym c.mechanism.ensures) (scram_mechanism c.args.version));
+  admin = search rules;
 }
