@@ -1,5 +1,5 @@
--- An accepted login over a server's two replies, whoever the server's user is: the client wrote two frames, and the second carries its
--- last message.
+-- An accepted login over a server's two replies, whoever the server's user is: the client wrote two frames, and the second carries a
+-- payload.
 use Rattle.std.proofs.Common.{◌≡◌, ℕ, ℤ, pos, ◌^◌, ◌<◌, ◌≤◌, ◌≤ℤ◌, IsTrue, false, Option, None, Some, option_map, unwrap_or, List, [], ◌∷◌, ◌++◌, length, length-append, append-nil, refl, sym, ap, ◌∙◌, subst, arith}
 use Rattle.std.proofs.lemmas.Int.{ints}
 use Rattle.std.proofs.lemmas.List.{append_assoc}

@@ -89,7 +89,7 @@ module _ (pending : PendingConnection) (options : HandshakerOptions) (first_id :
 
 -- ---- whatever comes of it
 
--- what a connection's establishment wrote over a server's replies carries the client's last message, whoever the server's user is
+-- what a connection's establishment wrote over a server's replies is two frames, and the second carries a payload, whoever the server's user is
 pub accepted_carries : (pending : PendingConnection) (options : HandshakerOptions) (first_id : ℤ) (login : UserLogin) (bytes : List ℕ) → AreServerReplies bytes → options ≡ handshaker_options → IsTrue (is_scram login.credential.mechanism) → login.credential.source ≡ None
     → (ended : Result PooledConnection EstablishError) (old new : State) (after : ℤ) (earlier later : Ledgers) (written : List ℕ) → IsAcceptedAs ended true → IfOk ended (Established (setup_for pending options (Some login.credential) login.inputs.nonces first_id) old new after earlier later) → old.left ≡ Some bytes → old.written ≡ Some [] → new.written ≡ Some written → CarriesAnyLast written
 accepted_carries pending options first_id login bytes (server_first, server_final, replies) usual scram of_admin (Ok pooled) old new after earlier later written is e told nothing all =

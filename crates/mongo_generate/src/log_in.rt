@@ -98,7 +98,7 @@ impl Client {
         steps: &mut Steps<G>,
     ) -> Result<Option<Bytes>, AllocError>
         requires replies { AreServerReplies replies }
-        // Whoever the server's user is, what was written carries the client's last message.
+        // Whoever the server's user is, two frames were written, and the second carries a payload.
         ensures carried { IfOk result (λ written. IfSome written CarriesAnyLast) }
         ensures written { (x : Authentication) → IsAuthenticationClient x login.now → AreAuthenticationReplies x replies → IfOk result (λ written. MatchOption written ⊥ (CarriesPayloadLast (close_of x))) }
         ensures takes { (x : Authentication) → IsAuthenticationClient x login.now → AreAuthenticationReplies x replies → OnOk result (StoresKey (key_of x) (ledgers steps.old state.old.salted) (ledgers steps.new state.new.salted)) }
