@@ -1,6 +1,6 @@
 use crate::task::DocumentShape;
 use itoa::Buffer;
-use mongo_bson::{BsonFault, ObjectId, RawArrayBuf, RawDocumentBuf, RawValue};
+use mongo_bson::{BsonFault, ObjectId, RawArrayBuf, RawDocumentBuf, RawValue, kinds};
 use std::alloc::Global;
 
 // How many copies of a document of many levels stand in the nested document, so that it is just below 16 MiB, the
@@ -61,7 +61,7 @@ fn append_kinds(document: &mut RawDocumentBuf) -> Result<(), BsonFault> {
     document.append("data", RawValue::Binary(0, b"sixteen octets.."))?;
     document.append("none", RawValue::Null)?;
     document.append("ort", RawValue::Str("Zürich"))?;
-    document.append("time", RawValue::Other(0x11, &[0; 8]))
+    document.append("time", RawValue::Other(kinds::TIMESTAMP, &[0; 8]))
 }
 
 // A document that holds another, and an array of four copies of it.

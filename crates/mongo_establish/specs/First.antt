@@ -80,8 +80,9 @@ scram_round round = None
 
 -- none, or one of SCRAM
 abbrev pub IsScramRound : Option AnsweredRound → Type 0
-IsScramRound (Some X509Answered) = ⊥
-IsScramRound round = ⊤
+IsScramRound None = ⊤
+IsScramRound (Some (ScramAnswered round)) = ⊤
+IsScramRound round = ⊥
 
 -- none, or one of the kind of the first message that it began with
 abbrev pub IsRoundFrom : Option ClientFirst → Option AnsweredRound → Type 0

@@ -1,6 +1,6 @@
 // The login that follows a hello.
 
-ghost use Rattle.std.specs.Prelude.{◌≡◌, true, false, Option, None, Some, Ok, option_copied, is_some, IsSome, List, ℕ, MatchOption, IfErr, OnOk, OnErr};
+ghost use Rattle.std.specs.Prelude.{◌≡◌, true, false, Option, None, Some, option_copied, is_some, IsSome, List, ℕ, MatchOption, IfErr, OnOk, OnErr};
 ghost use Rattle.mongo_wire.specs.declared.error.ErrorKind.{ErrorKind};
 ghost use Rattle.mongo_command.specs.Connection.{kept_fault, KeepsRest};
 ghost use Rattle.mongo_command.specs.Exchange.{CountsStay};

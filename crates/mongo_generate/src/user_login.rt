@@ -7,7 +7,7 @@ use mongo_establish::{Credential, Error, LoginInputs, Nonces, ScramVersion};
 use mongo_scram::ClientFirst;
 use std::alloc::Global;
 
-/// A user who logs in by SCRAM, and the nonces of the login.
+/// A user of the database `admin` who logs in by SCRAM, and the nonces of the login.
 pub struct UserLogin {
     pub(crate) credential: Credential,
     pub(crate) inputs: LoginInputs,

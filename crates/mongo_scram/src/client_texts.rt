@@ -8,7 +8,6 @@ ghost use Rattle.mongo_scram.specs.Messages.{open_message, no_proof, transcript}
 
 use crate::attributes::{BOUND_NONCE, GS2_HEADER, NEXT_NONCE, NEXT_PROOF, USER_NAME};
 use crate::base64_text::encoded;
-use crate::text_parts::concat;
 use crate::user_name::saslname;
 use mongo_mac::Tag;
 use std::alloc::{AllocError, Global};
@@ -19,10 +18,7 @@ pub fn open_text(alloc: Global, username: &str, nonce: &str) -> Result<String, A
     ensures { IfOk result (λ text. string_bytes text ≡ open_message username.now nonce.now) }
 {
     let name = saslname(alloc, username)?;
-    concat(
-        alloc,
-        &[GS2_HEADER, USER_NAME, name.as_str(), NEXT_NONCE, nonce],
-    )
+    [GS2_HEADER, USER_NAME, name.as_str(), NEXT_NONCE, nonce].concat(alloc)
 }
 
 /// What both sides sign (RFC 5802, section 3, `AuthMessage`): the client's first message without its GS2 header, the server's
@@ -36,7 +32,7 @@ pub fn transcript_text(
 ) -> Result<String, AllocError>
     ensures { IfOk result (λ text. string_bytes text ≡ transcript bare.now server_first.now nonce.now) }
 {
-    concat(alloc, &[bare, ",", server_first, ",", BOUND_NONCE, nonce])
+    [bare, ",", server_first, ",", BOUND_NONCE, nonce].concat(alloc)
 }
 
 /// `c=biws,r=` the nonce `,p=` the proof in base64.
@@ -45,5 +41,5 @@ pub fn close_text(alloc: Global, nonce: &str, proof: &Tag) -> Result<String, All
     ensures { IfOk result (λ text. string_bytes text ≡ no_proof nonce.now ++ (after_comma proof_attribute ++ base64_of proof.now)) }
 {
     let proof = encoded(alloc, proof.as_bytes())?;
-    concat(alloc, &[BOUND_NONCE, nonce, NEXT_PROOF, proof.as_str()])
+    [BOUND_NONCE, nonce, NEXT_PROOF, proof.as_str()].concat(alloc)
 }

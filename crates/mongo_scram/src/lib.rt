@@ -42,7 +42,6 @@ mod scram_version;
 mod server_final;
 mod server_first;
 mod signing_key;
-mod text_parts;
 mod user_name;
 
 pub use auth_info::ClientAuthInfo;
@@ -56,5 +55,4 @@ pub use parse::cut;
 pub use scram_version::ScramVersion;
 pub use server_final::{ServerFinal, ServerFinalBody};
 pub use server_first::{MIN_ITERATION_COUNT, ServerFirst};
-pub use text_parts::concat;
 pub use user_name::saslname;

@@ -10,7 +10,7 @@ use itoa::Buffer;
 use mongo_bson::Text;
 use mongo_mac::Tag;
 use mongo_scram::attributes::{NEXT_ITERATION_COUNT, NEXT_SALT, NONCE, VERIFIER};
-use mongo_scram::{concat, encoded};
+use mongo_scram::encoded;
 use std::alloc::Global;
 
 /// The client's nonce and the server's suffix joined.
@@ -18,7 +18,7 @@ pub fn joined_nonce(alloc: Global, nonce: &str, suffix: &str) -> Result<Text, Se
     ensures text { IfOk result (λ text. text ≡ nonce.now ++ suffix.now) }
     ensures refused { IfErr result (λ fault. fault ≡ OutOfMemory) }
 {
-    Ok(Text::from_string(concat(alloc, &[nonce, suffix])?))
+    Ok(Text::from_string([nonce, suffix].concat(alloc)?))
 }
 
 /// The server's first message: `r=` nonce `,s=` salt in base64 `,i=` iteration count.
@@ -34,17 +34,15 @@ pub fn server_first_text(
 {
     let salt = encoded(alloc, salt)?;
     let mut digits = Buffer::new();
-    let text = concat(
-        alloc,
-        &[
-            NONCE,
-            nonce,
-            NEXT_SALT,
-            salt.as_str(),
-            NEXT_ITERATION_COUNT,
-            digits.format(count),
-        ],
-    )?;
+    let text = [
+        NONCE,
+        nonce,
+        NEXT_SALT,
+        salt.as_str(),
+        NEXT_ITERATION_COUNT,
+        digits.format(count),
+    ]
+    .concat(alloc)?;
     Ok(Text::from_string(text))
 }
 
@@ -54,5 +52,5 @@ pub fn server_final_text(alloc: Global, verifier: &Tag) -> Result<Text, ServerFa
     ensures refused { IfErr result (λ fault. fault ≡ OutOfMemory) }
 {
     let verifier = encoded(alloc, verifier.as_bytes())?;
-    Ok(Text::from_string(concat(alloc, &[VERIFIER, verifier.as_str()])?))
+    Ok(Text::from_string([VERIFIER, verifier.as_str()].concat(alloc)?))
 }
