@@ -101,7 +101,7 @@ fn read_checksum(word: u32, tail: &[u8]) -> Option<Option<u32>>
     if tail.len() != CHECKSUM_LENGTH {
         return None;
     }
-    if MessageFlags::tells_checksum(word) {
+    if MessageFlags::has_checksum_flag(word) {
         Some(Some(number(tail, 0)))
     } else {
         None

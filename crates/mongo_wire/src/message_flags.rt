@@ -39,7 +39,7 @@ impl Flags for MessageFlags {
 
 impl MessageFlags {
     // Whether a flag word says that a checksum follows the sections.
-    pub(crate) fn tells_checksum(word: u32) -> bool
+    pub(crate) fn has_checksum_flag(word: u32) -> bool
         ensures { IsTrue result ↔ (word % 2 ≡ 1) }
     {
         word & MessageFlags::CHECKSUM_PRESENT.0 != 0
