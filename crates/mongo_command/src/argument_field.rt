@@ -6,13 +6,10 @@ ghost use Rattle.mongo_command.specs.Keys.{api_version_key, write_concern_key};
 
 use crate::ServerApi;
 use crate::keys::{API_VERSION, OK, WRITE_CONCERN};
-use mongo_bson::{GENERIC, RawDocumentBuf, RawValue, Text, kinds};
+use mongo_bson::{EMPTY_DOCUMENT, GENERIC, RawDocumentBuf, RawValue, Text, kinds};
 
 // The bits of the double 1.0, IEEE 754 binary64.
 const ONE: u64 = 0x3FF0_0000_0000_0000;
-
-// The length of a document without elements.
-const EMPTY_DOCUMENT: usize = 5;
 
 /// A field of a document: its key and its value. None is a field that isn't there, of which nothing is written.
 pub type ArgumentField<'a> = Option<(&'static str, RawValue<'a>)>;
@@ -176,7 +173,7 @@ pub(crate) fn optional_write_concern_field<'a>(
     ensures named { IsNamed result }
 {
     match concern {
-        Some(concern) if concern.as_bytes().len() > EMPTY_DOCUMENT => {
+        Some(concern) if concern.as_bytes().len() > EMPTY_DOCUMENT.len() => {
             document_field(WRITE_CONCERN, concern)
         }
         _ => None,
