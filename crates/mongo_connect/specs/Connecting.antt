@@ -4,7 +4,7 @@ use Rattle.std.specs.Io.KnownBytes.{append_known}
 use Rattle.mongo_wire.specs.Outside.{State}
 use Rattle.mongo_scram.specs.declared.cache.SaltedCache.{SaltedCache}
 use Rattle.mongo_scram.specs.Cache.{entries_of}
-use Rattle.mongo_scram.specs.Costs.{ledgers}
+use Rattle.mongo_scram.specs.Costs.{ledgers, checkpoint}
 use Rattle.mongo_establish.specs.declared.establisher.PooledConnection.{PooledConnection}
 use Rattle.mongo_establish.specs.declared.establisher.EstablishError.{EstablishError}
 use Rattle.mongo_establish.specs.Ending.{EndsEstablishment}
@@ -16,6 +16,7 @@ use Rattle.mongo_settings.specs.Task.{StepCounts, CountsKey}
 use Rattle.mongo_settings.specs.Reporting.{ReportsOutcome}
 use Rattle.mongo_connect.specs.Recording.{IsTakenCount}
 use Rattle.mongo_connect.specs.Settings.{with_replies}
+use Rattle.mongo_establish.specs.Setup.{start_of}
 
 -- The connection that settings ask for was made, or was stopped as the establishment says: by its replies' refusal, a fault of
 -- the link, an end, or want of memory. No key was held before it, and the steps rose by what it derived.
@@ -24,7 +25,7 @@ pub record Attempted (settings : Settings) (steps : StepCounts) (result : Result
   pub held : SaltedCache
   pub none_held : entries_of held ≡ []
   pub held_after : SaltedCache
-  pub ended : EndsEstablishment (setup_of settings) old new after (ledgers steps.before held) (ledgers steps.after held_after) result
+  pub ended : EndsEstablishment (setup_of settings) (start_of (setup_of settings) old (ledgers steps.before held)) (checkpoint new after (ledgers steps.after held_after)) result
 
 -- the report tells how it ended, by all that was written and how many bytes were taken
 pub record IsConnectionReported (settings : Settings) (steps : StepCounts) (old new : State) (rehearsal : Rehearsal) : Type 0 where

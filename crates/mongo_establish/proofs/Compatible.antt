@@ -14,7 +14,7 @@ use Rattle.mongo_sasl.specs.declared.mechanism.AuthMechanism.{AuthMechanism}
 use Rattle.mongo_sasl.specs.declared.mechanism.AuthMechanism.TheVariants.{MongoDbCr}
 use Rattle.mongo_establish.specs.declared.conversation.Conversation.{Conversation}
 use Rattle.mongo_establish.specs.declared.conversation.Conversation.TheVariants.{Scram}
-use Rattle.mongo_establish.specs.Setup.{Setup}
+use Rattle.mongo_establish.specs.Setup.{Setup, start_of}
 use Rattle.mongo_establish.specs.Established.{StoppedHandshake}
 use Rattle.mongo_establish.specs.Greeting.{Greeting, Greets}
 use Rattle.mongo_establish.specs.Login.{logging_in, speculative_reply, IsMechanism, InvalidRow}
@@ -24,7 +24,7 @@ use Rattle.mongo_establish.specs.Speculation.{mechanism_before, ConversationRow,
 use Rattle.mongo_establish.specs.Spoken.{conversation_of, HasConversation}
 use Rattle.mongo_establish.proofs.Conversations.{joins}
 use Rattle.mongo_sasl.proofs.Fits.{NeverIncompatible}
-use Rattle.mongo_scram.specs.Costs.{Ledgers}
+use Rattle.mongo_scram.specs.Costs.{Ledgers, checkpoint}
 use Rattle.mongo_scram.proofs.ScramFits.{credential_other}
 
 -- ---- a plan that never refuses so
@@ -85,10 +85,10 @@ fits_login_by (Some credential) setup greeting =
 
 -- ---- the handshake
 
-pub compatible : (setup : Setup) (opened connection : Connection) (kind : ErrorKind) (old new : State) (after : ℤ) (first last : Ledgers) → StoppedHandshake setup opened connection kind old new after first last → kind ≡ IncompatibleServer → ⊥
+pub compatible : (setup : Setup) (opened connection : Connection) (kind : ErrorKind) (old new : State) (after : ℤ) (first last : Ledgers) → StoppedHandshake setup opened connection kind (start_of setup old first) (checkpoint new after last) → kind ≡ IncompatibleServer → ⊥
 unfolding login_plan
 compatible setup opened connection kind old new after first last s is =
-    elim (subst (λ k. StoppedHandshake setup opened connection k old new after first last) is s) [
+    elim (subst (λ k. StoppedHandshake setup opened connection k (start_of setup old first) (checkpoint new after last)) is s) [
       | inl hello ↦ no_stop (hello_plan setup) old new setup.first_id after (fits_hello setup) hello.hello
       | inr login ↦ no_stop (login_plan setup login.greeting) login.middle new login.between after (fits_login_by (logging_in setup login.greeting) setup login.greeting) login.login
     ]

@@ -8,7 +8,7 @@ use Rattle.mongo_scram.specs.Cache.{entries_of, rounds_of}
 use Rattle.mongo_scram.specs.Costs.{Ledgers, Checkpoint, checkpoint, HasEntry, Counts, Derives, SameEntries, CostsNothing}
 use Rattle.mongo_establish.specs.declared.establisher.EstablishError.{EstablishError}
 use Rattle.mongo_establish.specs.declared.establisher.PooledConnection.{PooledConnection}
-use Rattle.mongo_establish.specs.Setup.{Setup}
+use Rattle.mongo_establish.specs.Setup.{Setup, start_of}
 use Rattle.mongo_establish.specs.Established.{Established}
 use Rattle.mongo_establish.specs.Derivation.{LeadsToKey}
 use Rattle.mongo_establish.specs.KeyCosts.{StoresKey, AcceptedKeyCosts, RefusedKeyCosts, LedToKey}
@@ -55,8 +55,8 @@ spent_some plan kind old new s =
     ]
 
 -- however an establishment came out
-pub costs_some : (r : Result PooledConnection EstablishError) (setup : Setup) (old new : State) (after : ℤ) (first last : Ledgers) → IfOk r (Established setup old new after first last)
-    → IfErr r (λ e. StoppedIn e.handshake_phase setup e.cause.kind old new after first last) → CostsSome first last
+pub costs_some : (r : Result PooledConnection EstablishError) (setup : Setup) (old new : State) (after : ℤ) (first last : Ledgers) → IfOk r (Established setup (start_of setup old first) (checkpoint new after last))
+    → IfErr r (λ e. StoppedIn e.handshake_phase setup e.cause.kind (start_of setup old first) (checkpoint new after last)) → CostsSome first last
 costs_some (Ok pooled) setup old new after first last made refused = taken_some _ _ _ (handshake_taken setup made.script.greeting (checkpoint old setup.first_id first) (checkpoint new after last) made.costs)
 costs_some (Err e) setup old new after first last made refused =
     elim (establishment_spent e.handshake_phase setup e.cause.kind old new after first last refused) [

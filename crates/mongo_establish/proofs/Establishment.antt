@@ -14,7 +14,7 @@ use Rattle.mongo_scram.specs.Costs.{Ledgers, checkpoint}
 use Rattle.mongo_establish.specs.declared.establisher.HandshakePhase.{HandshakePhase}
 use Rattle.mongo_establish.specs.declared.establisher.HandshakePhase.TheVariants.{PreHello, PostHello}
 use Rattle.mongo_establish.specs.declared.generation.ConnectionGeneration.{ConnectionGeneration}
-use Rattle.mongo_establish.specs.Setup.{Setup}
+use Rattle.mongo_establish.specs.Setup.{Setup, start_of}
 use Rattle.mongo_establish.specs.Established.{StoppedHandshake}
 use Rattle.mongo_establish.specs.Generation.{generation_of}
 use Rattle.mongo_establish.specs.Greeting.{Greeting}
@@ -38,7 +38,7 @@ unfolding handshake_plan
 login_stops setup greeting kind old middle new between after hello s = (s.0, stopped_second (hello_plan setup) (login_plan setup) greeting kind old middle new setup.first_id between after hello s.1)
 
 -- whatever part of a handshake was stopped
-pub shaking_stops : (setup : Setup) (opened connection : Connection) (kind : ErrorKind) (old new : State) (after : ℤ) (first last : Ledgers) → StoppedHandshake setup opened connection kind old new after first last → Stopped (handshake_plan setup) kind old new setup.first_id after
+pub shaking_stops : (setup : Setup) (opened connection : Connection) (kind : ErrorKind) (old new : State) (after : ℤ) (first last : Ledgers) → StoppedHandshake setup opened connection kind (start_of setup old first) (checkpoint new after last) → Stopped (handshake_plan setup) kind old new setup.first_id after
 shaking_stops setup opened connection kind old new after first last s =
     elim s [
       | inl h ↦ hello_stops setup kind old new after (kept_fault connection, h.hello)
@@ -58,7 +58,7 @@ service_stops setup greeting kind old middle new between after first last hello 
     (None, stopped_second (handshake_plan setup) (service_plan setup) greeting kind old new new setup.first_id after after (handshake_reached setup greeting old middle new between after hello u.login) (stopped_row _ _ kind new after u.unnamed))
 
 -- whatever part of an establishment was stopped
-pub stopped_whole : (phase : HandshakePhase) (setup : Setup) (kind : ErrorKind) (old new : State) (after : ℤ) (first last : Ledgers) → StoppedIn phase setup kind old new after first last → Stopped (establishment_plan setup) kind old new setup.first_id after
+pub stopped_whole : (phase : HandshakePhase) (setup : Setup) (kind : ErrorKind) (old new : State) (after : ℤ) (first last : Ledgers) → StoppedIn phase setup kind (start_of setup old first) (checkpoint new after last) → Stopped (establishment_plan setup) kind old new setup.first_id after
 stopped_whole (PreHello generation) setup kind old new after first last r = handshake_stops setup kind old new after (hello_stops setup kind old new after r.1)
 stopped_whole (PostHello generation) setup kind old new after first last r =
     elim r.stopped [
@@ -96,13 +96,13 @@ pub record RefusedBy (phase : HandshakePhase) (setup : Setup) (bytes : List ℕ)
   pub joined : bytes ≡ refusal.taken ++ refusal.unread
   pub left_by : LeftBy refusal.commands refusal.unread old new setup.first_id after
 
-past_hello : (generation : ConnectionGeneration) (setup : Setup) (kind : ErrorKind) (old new : State) (after : ℤ) (first last : Ledgers) (bytes : List ℕ) → StoppedAfterHello setup generation kind old new after first last → old.left ≡ Some bytes → LeadsPastHello setup bytes generation
+past_hello : (generation : ConnectionGeneration) (setup : Setup) (kind : ErrorKind) (old new : State) (after : ℤ) (first last : Ledgers) (bytes : List ℕ) → StoppedAfterHello setup generation kind (start_of setup old first) (checkpoint new after last) → old.left ≡ Some bytes → LeadsPastHello setup bytes generation
 past_hello generation setup kind old new after first last bytes r is =
     let l = reached_led (hello_plan setup) r.greeting old r.middle setup.first_id r.between bytes r.hello is in
     record { greeting = r.greeting; commands = l.commands; taken = l.taken; unread = l.unread; leads = l.leads; generation_is = r.generation_is }
 
 -- where the link didn't fail, memory was wanted or the bytes lead to the refusal
-pub stopped_refusal : (phase : HandshakePhase) (setup : Setup) (kind : ErrorKind) (old new : State) (after : ℤ) (first last : Ledgers) (bytes : List ℕ) → StoppedIn phase setup kind old new after first last → old.left ≡ Some bytes → Unfailed old new
+pub stopped_refusal : (phase : HandshakePhase) (setup : Setup) (kind : ErrorKind) (old new : State) (after : ℤ) (first last : Ledgers) (bytes : List ℕ) → StoppedIn phase setup kind (start_of setup old first) (checkpoint new after last) → old.left ≡ Some bytes → Unfailed old new
     → (kind ≡ OutOfMemory) ⊎ RefusedBy phase setup bytes kind old new after
 stopped_refusal (PreHello generation) setup kind old new after first last bytes r is unfailed =
     elim (stopped_led (hello_plan setup) kind old new setup.first_id after bytes r.1.1 is unfailed) [

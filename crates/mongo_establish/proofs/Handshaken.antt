@@ -17,7 +17,7 @@ use Rattle.mongo_establish.specs.declared.establisher.PendingConnection.{Pending
 use Rattle.mongo_establish.specs.declared.establisher.PooledConnection.{PooledConnection}
 use Rattle.mongo_establish.specs.declared.login_state.Nonces.{Nonces}
 use Rattle.mongo_establish.specs.declared.options.HandshakerOptions.{HandshakerOptions}
-use Rattle.mongo_establish.specs.Setup.{Setup, setup_for, setup_over}
+use Rattle.mongo_establish.specs.Setup.{Setup, setup_for, setup_over, start_of}
 use Rattle.mongo_establish.specs.Costs.{LoginCosts, HandshakeCosts}
 use Rattle.mongo_establish.specs.Established.{Describes, Established, IsDescribed, ShookHands, StoppedHandshake, StoppedHello, StoppedLogin}
 use Rattle.mongo_establish.specs.Generation.{NamesService, generation_of}
@@ -65,16 +65,16 @@ module _ (pending : PendingConnection) (options : HandshakerOptions) (credential
 
   -- ---- a handshake that was followed to its end
 
-  handshake_wanted : (connection : Connection) (old new : State) (after : ℤ) (first last : Ledgers) (reply : HelloReply) (s : ShookHands over opened connection old new after first last reply) → Reached (handshake_plan wanted) s.script.greeting old new id after
+  handshake_wanted : (connection : Connection) (old new : State) (after : ℤ) (first last : Ledgers) (reply : HelloReply) (s : ShookHands over opened connection (start_of over old first) (checkpoint new after last) reply) → Reached (handshake_plan wanted) s.script.greeting old new id after
   handshake_wanted connection old new after first last reply s =
       let greeting = s.script.greeting in
       handshake_reached wanted greeting old s.middle new s.between after (hello_reached greeting old s.middle id s.between s.hello) (login_reached greeting s.middle new s.between after s.login)
 
-  shook_login_costs : (connection : Connection) (old new : State) (after : ℤ) (first last : Ledgers) (reply : HelloReply) (s : ShookHands over opened connection old new after first last reply) → LoginCosts wanted s.script.greeting (checkpoint s.middle s.between first) (checkpoint new after last)
+  shook_login_costs : (connection : Connection) (old new : State) (after : ℤ) (first last : Ledgers) (reply : HelloReply) (s : ShookHands over opened connection (start_of over old first) (checkpoint new after last) reply) → LoginCosts wanted s.script.greeting (checkpoint s.middle s.between first) (checkpoint new after last)
   shook_login_costs connection old new after first last reply s = costs_alike (pending_over opened) pending options credential nonces id id s.script.greeting (checkpoint s.middle s.between first) (checkpoint new after last) s.costs
 
   -- what was derived and kept
-  pub shook_costs : (connection : Connection) (old new : State) (after : ℤ) (first last : Ledgers) (reply : HelloReply) (s : ShookHands over opened connection old new after first last reply) → HandshakeCosts wanted s.script.greeting (checkpoint old id first) (checkpoint new after last)
+  pub shook_costs : (connection : Connection) (old new : State) (after : ℤ) (first last : Ledgers) (reply : HelloReply) (s : ShookHands over opened connection (start_of over old first) (checkpoint new after last) reply) → HandshakeCosts wanted s.script.greeting (checkpoint old id first) (checkpoint new after last)
   shook_costs connection old new after first last reply s = record {
     middle = s.middle;
     between = s.between;
@@ -83,8 +83,8 @@ module _ (pending : PendingConnection) (options : HandshakerOptions) (credential
   }
 
   -- is the connection that is ready for commands, where a service that has to be named is
-  pub established : (connection : Connection) (old new : State) (after : ℤ) (first last : Ledgers) (reply : HelloReply) (pooled : PooledConnection) → opened.id ≡ pending.id → opened.oidc_token_gen_id ≡ 0 → ShookHands over opened connection old new after first last reply
-      → IsPooled connection pending.generation pooled → Established wanted old new after first last pooled
+  pub established : (connection : Connection) (old new : State) (after : ℤ) (first last : Ledgers) (reply : HelloReply) (pooled : PooledConnection) → opened.id ≡ pending.id → opened.oidc_token_gen_id ≡ 0 → ShookHands over opened connection (start_of over old first) (checkpoint new after last) reply
+      → IsPooled connection pending.generation pooled → Established wanted (start_of wanted old first) (checkpoint new after last) pooled
   established connection old new after first last reply pooled number token s p =
       let greeting = s.script.greeting in
       let description : p.description ≡ greeting.description = same_description p.description greeting.description (sym p.described ∙ s.described.holds.description_is) in
@@ -101,15 +101,15 @@ module _ (pending : PendingConnection) (options : HandshakerOptions) (credential
   -- ---- a handshake that was stopped, and one whose server named no service
 
   late_phase : (phase : HandshakePhase) (description : StreamDescription) (kind : ErrorKind) (old new : State) (after : ℤ) (first last : Ledgers) → phase ≡ PostHello (generation_of pending.generation description)
-      → StoppedAfterHello wanted (generation_of pending.generation description) kind old new after first last → StoppedIn phase wanted kind old new after first last
-  late_phase phase description kind old new after first last is stopped = subst (λ p. StoppedIn p wanted kind old new after first last) (sym is) stopped
+      → StoppedAfterHello wanted (generation_of pending.generation description) kind (start_of wanted old first) (checkpoint new after last) → StoppedIn phase wanted kind (start_of wanted old first) (checkpoint new after last)
+  late_phase phase description kind old new after first last is stopped = subst (λ p. StoppedIn p wanted kind (start_of wanted old first) (checkpoint new after last)) (sym is) stopped
 
-  stopped_hello : (phase : HandshakePhase) (connection : Connection) (kind : ErrorKind) (old new : State) (after : ℤ) (first last : Ledgers) → phase ≡ phase_at connection.stream_description pending.generation → StoppedHello over opened connection kind old new after first last → StoppedIn phase wanted kind old new after first last
+  stopped_hello : (phase : HandshakePhase) (connection : Connection) (kind : ErrorKind) (old new : State) (after : ℤ) (first last : Ledgers) → phase ≡ phase_at connection.stream_description pending.generation → StoppedHello over opened connection kind (start_of over old first) (checkpoint new after last) → StoppedIn phase wanted kind (start_of wanted old first) (checkpoint new after last)
   stopped_hello phase connection kind old new after first last is s =
       let early : phase ≡ PreHello pending.generation = is ∙ ap (λ d. phase_at d pending.generation) s.undescribed in
-      subst (λ p. StoppedIn p wanted kind old new after first last) (sym early) (refl, hello_stopped kind old new id after (kept_fault connection, s.hello), s.costs)
+      subst (λ p. StoppedIn p wanted kind (start_of wanted old first) (checkpoint new after last)) (sym early) (refl, hello_stopped kind old new id after (kept_fault connection, s.hello), s.costs)
 
-  stopped_login : (phase : HandshakePhase) (connection : Connection) (kind : ErrorKind) (old new : State) (after : ℤ) (first last : Ledgers) → phase ≡ phase_at connection.stream_description pending.generation → StoppedLogin over opened connection kind old new after first last → StoppedIn phase wanted kind old new after first last
+  stopped_login : (phase : HandshakePhase) (connection : Connection) (kind : ErrorKind) (old new : State) (after : ℤ) (first last : Ledgers) → phase ≡ phase_at connection.stream_description pending.generation → StoppedLogin over opened connection kind (start_of over old first) (checkpoint new after last) → StoppedIn phase wanted kind (start_of wanted old first) (checkpoint new after last)
   stopped_login phase connection kind old new after first last is s =
       late_phase phase s.greeting.description kind old new after first last (is ∙ ap (λ d. phase_at d pending.generation) s.held.description_is) (record {
         greeting = s.greeting;
@@ -124,12 +124,12 @@ module _ (pending : PendingConnection) (options : HandshakerOptions) (credential
       })
 
   -- the phase is what the connection's description says
-  pub stopped_in : (phase : HandshakePhase) (connection : Connection) (kind : ErrorKind) (old new : State) (after : ℤ) (first last : Ledgers) → phase ≡ phase_at connection.stream_description pending.generation → StoppedHandshake over opened connection kind old new after first last → StoppedIn phase wanted kind old new after first last
+  pub stopped_in : (phase : HandshakePhase) (connection : Connection) (kind : ErrorKind) (old new : State) (after : ℤ) (first last : Ledgers) → phase ≡ phase_at connection.stream_description pending.generation → StoppedHandshake over opened connection kind (start_of over old first) (checkpoint new after last) → StoppedIn phase wanted kind (start_of wanted old first) (checkpoint new after last)
   stopped_in phase connection kind old new after first last is s =
       elim s [ inl h ↦ stopped_hello phase connection kind old new after first last is h | inr l ↦ stopped_login phase connection kind old new after first last is l ]
 
-  pub unnamed_stopped : (connection : Connection) (old new : State) (after : ℤ) (first last : Ledgers) (reply : HelloReply) (e : EstablishError) → ShookHands over opened connection old new after first last reply → UnnamedService connection pending.generation e
-      → StoppedIn e.handshake_phase wanted e.cause.kind old new after first last
+  pub unnamed_stopped : (connection : Connection) (old new : State) (after : ℤ) (first last : Ledgers) (reply : HelloReply) (e : EstablishError) → ShookHands over opened connection (start_of over old first) (checkpoint new after last) reply → UnnamedService connection pending.generation e
+      → StoppedIn e.handshake_phase wanted e.cause.kind (start_of wanted old first) (checkpoint new after last)
   unnamed_stopped connection old new after first last reply e s u =
       let description : u.description ≡ s.script.greeting.description = same_description u.description s.script.greeting.description (sym u.described ∙ s.described.holds.description_is) in
       let unnamed : NoService pending.generation s.script.greeting.description e.cause.kind = (u.kind_is, subst (λ d. NamesService pending.generation d → ⊥) description u.unnamed) in

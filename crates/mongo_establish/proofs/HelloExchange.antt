@@ -18,6 +18,7 @@ use Rattle.mongo_command.specs.Hello.{IsHelloResponse, HelloRefused, description
 use Rattle.mongo_command.specs.HelloExchange.{RunsHello, RunHelloRefused}
 use Rattle.mongo_command.proofs.Rest.{keeps_all}
 use Rattle.mongo_command.proofs.Steps.{reached_ending, reached_unless, reached_reading, reached_saying, stopped_saying}
+use Rattle.mongo_command.specs.EndsExchange.{footing}
 use Rattle.mongo_sasl.specs.declared.credential.Credential.{Credential}
 use Rattle.mongo_sasl.specs.Stops.{RefusedAtOnce}
 use Rattle.mongo_sasl.proofs.AtOnce.{at_once_keeping, refused_later}
@@ -67,7 +68,7 @@ module _ (options : HandshakerOptions) (credential : Option Credential) (login :
   abbrev message : Message
   message = plain_message (command_document (hello_with options credential login))
 
-  ungreeted : (connection : Connection) (kind : ErrorKind) (old new : State) (before after : ℤ) → KeepsRest opened connection → StoppedKeeping plan kind old new before after (kept_fault connection) → UngreetedBy options credential login opened connection kind old new before after
+  ungreeted : (connection : Connection) (kind : ErrorKind) (old new : State) (before after : ℤ) → KeepsRest opened connection → StoppedKeeping plan kind old new before after (kept_fault connection) → UngreetedBy options credential login kind (footing opened old before) (footing connection new after)
   ungreeted connection kind old new before after rest stopped = record { stopped = stopped; undescribed = rest.description ∙ fresh; rest = rest }
 
   -- one that leaves no fault
@@ -80,7 +81,7 @@ module _ (options : HandshakerOptions) (credential : Option Credential) (login :
       let hello = hello_with options credential login in
       not_built (hello_said_with options credential login) (after_hello opened.address) hello kind refl (least_body options credential login) r
 
-  pub unbuilt_greeting : {T : Type 0} (r : Result T Error) (old : State) (before : ℤ) → kept_fault opened ≡ None → IfErr r (λ e. DocumentRefused e.kind (hello_with options credential login).body) → IfErr r (λ e. UngreetedBy options credential login opened opened e.kind old old before before)
+  pub unbuilt_greeting : {T : Type 0} (r : Result T Error) (old : State) (before : ℤ) → kept_fault opened ≡ None → IfErr r (λ e. DocumentRefused e.kind (hello_with options credential login).body) → IfErr r (λ e. UngreetedBy options credential login e.kind (footing opened old before) (footing opened old before))
   unbuilt_greeting (Ok x) old before faultless h = tt
   unbuilt_greeting (Err e) old before faultless h =
       ungreeted opened e.kind old old before before (keeps_all opened) (still opened e.kind old old before before faultless (at_once_keeping plan e.kind old before (unbuilt e.kind h)))
@@ -101,7 +102,7 @@ module _ (options : HandshakerOptions) (credential : Option Credential) (login :
 
     -- it was refused
     pub unrun_greeting : {T : Type 0} (r : Result T Error) (connection : Connection) (old new : State) (before after : ℤ) → KeepsRest opened connection → CountsStay old new
-        → IfErr r (λ e. RunHelloRefused e.kind (frame_maximum opened.stream_description) (command_message hello) old new before after (kept_fault connection)) → IfErr r (λ e. UngreetedBy options credential login opened connection e.kind old new before after)
+        → IfErr r (λ e. RunHelloRefused e.kind (frame_maximum opened.stream_description) (command_message hello) old new before after (kept_fault connection)) → IfErr r (λ e. UngreetedBy options credential login e.kind (footing opened old before) (footing connection new after))
     unrun_greeting (Ok x) connection old new before after rest counts h = tt
     unrun_greeting (Err e) connection old new before after rest counts h =
         ungreeted connection e.kind old new before after rest (unrun e.kind old new before after (kept_fault connection) counts (refused_so e.kind old new before after (kept_fault connection) h))
@@ -113,7 +114,7 @@ module _ (options : HandshakerOptions) (credential : Option Credential) (login :
           (subst (λ most. RunsHello most (command_message hello) old new before after reply) (maximum_before opened.stream_description fresh) runs)
 
       -- its reply doesn't describe the server
-      pub undescribed_greeting : {T : Type 0} (r : Result T Error) (connection : Connection) → connection ≡ ran → kept_fault ran ≡ None → IfErr r (λ e. DescriptionRefused e.kind reply.command_response) → IfErr r (λ e. UngreetedBy options credential login opened connection e.kind old new before after)
+      pub undescribed_greeting : {T : Type 0} (r : Result T Error) (connection : Connection) → connection ≡ ran → kept_fault ran ≡ None → IfErr r (λ e. DescriptionRefused e.kind reply.command_response) → IfErr r (λ e. UngreetedBy options credential login e.kind (footing opened old before) (footing connection new after))
       undescribed_greeting (Ok x) connection same faultless h = tt
       undescribed_greeting (Err e) connection same faultless h =
           ungreeted connection e.kind old new before after (subst (KeepsRest opened) (sym same) rest)
@@ -131,7 +132,7 @@ module _ (options : HandshakerOptions) (credential : Option Credential) (login :
       }
 
       -- it does
-      pub greeted : (connection : Connection) → reply.server_address ≡ opened.address → kept_fault ran ≡ None → IsDescribedBy ran connection reply → GreetedBy options credential login opened connection old new before after reply
+      pub greeted : (connection : Connection) → reply.server_address ≡ opened.address → kept_fault ran ≡ None → IsDescribedBy ran connection reply → GreetedBy options credential login (footing opened old before) (footing connection new after) reply
       greeted connection at faultless h = record {
         address = at;
         reads = runs.reads;

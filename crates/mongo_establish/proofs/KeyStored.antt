@@ -29,7 +29,7 @@ use Rattle.mongo_establish.specs.declared.establisher.HandshakePhase.{HandshakeP
 use Rattle.mongo_establish.specs.declared.establisher.HandshakePhase.TheVariants.{PreHello, PostHello}
 use Rattle.mongo_establish.specs.declared.establisher.PooledConnection.{PooledConnection}
 use Rattle.mongo_establish.specs.declared.generation.PoolGeneration.{PoolGeneration}
-use Rattle.mongo_establish.specs.Setup.{Setup}
+use Rattle.mongo_establish.specs.Setup.{Setup, start_of}
 use Rattle.mongo_establish.specs.Costs.{AcceptedCosts, StoppedCosts, LoginCostsOf, StoppedLoginCostsOf, HandshakeCosts}
 use Rattle.mongo_establish.specs.Derivation.{derivation_by, derivation_of, login_derivation, derivation_plan}
 use Rattle.mongo_establish.specs.Established.{StoppedHandshake}
@@ -203,7 +203,7 @@ abbrev pub UnnamedCosts : Setup → ErrorKind → Checkpoint → Checkpoint → 
 UnnamedCosts setup kind old new = (kind ≡ IncompatibleServer) × ((greeting : Greeting) × HandshakeCosts setup greeting old new)
 
 -- one that was stopped, or whose server named no service
-pub establishment_spent : (phase : HandshakePhase) (setup : Setup) (kind : ErrorKind) (old new : State) (after : ℤ) (first last : Ledgers) → StoppedIn phase setup kind old new after first last
+pub establishment_spent : (phase : HandshakePhase) (setup : Setup) (kind : ErrorKind) (old new : State) (after : ℤ) (first last : Ledgers) → StoppedIn phase setup kind (start_of setup old first) (checkpoint new after last)
     → KeySpent (derivation_plan setup) kind (checkpoint old setup.first_id first) (checkpoint new after last) ⊎ UnnamedCosts setup kind (checkpoint old setup.first_id first) (checkpoint new after last)
 unfolding derivation_plan login_derivation
 establishment_spent (PreHello generation) setup kind old new after first last (is, stopped, nothing) = inl (inl (record { stopped = (stopped.0, stopped_first (hello_plan setup) (login_derivation setup) kind old new setup.first_id after stopped.1); nothing = nothing }))
@@ -254,7 +254,7 @@ unnamed_entries P (Ok pooled) connection pool u = tt
 unnamed_entries P (Err e) connection pool u = inl u.kind_is
 
 -- one that was refused
-pub refused_led : (e : EstablishError) (setup : Setup) (old new : State) (after : ℤ) (first last : Ledgers) → StoppedIn e.handshake_phase setup e.cause.kind old new after first last → (e.cause.kind ≡ IncompatibleServer → ⊥) → CostsAsLed {T = PooledConnection} (Err e) setup old new first last
+pub refused_led : (e : EstablishError) (setup : Setup) (old new : State) (after : ℤ) (first last : Ledgers) → StoppedIn e.handshake_phase setup e.cause.kind (start_of setup old first) (checkpoint new after last) → (e.cause.kind ≡ IncompatibleServer → ⊥) → CostsAsLed {T = PooledConnection} (Err e) setup old new first last
 refused_led e setup old new after first last s other = record {
   over = λ bytes is unfailed.
       elim (establishment_spent e.handshake_phase setup e.cause.kind old new after first last s) [
@@ -266,5 +266,5 @@ refused_led e setup old new after first last s other = record {
       ];
 }
 
-pub refused_compatible : (e : EstablishError) (cause : Error) (setup : Setup) (opened connection : Connection) (old new : State) (after : ℤ) (first last : Ledgers) → e.cause ≡ cause → StoppedHandshake setup opened connection cause.kind old new after first last → e.cause.kind ≡ IncompatibleServer → ⊥
+pub refused_compatible : (e : EstablishError) (cause : Error) (setup : Setup) (opened connection : Connection) (old new : State) (after : ℤ) (first last : Ledgers) → e.cause ≡ cause → StoppedHandshake setup opened connection cause.kind (start_of setup old first) (checkpoint new after last) → e.cause.kind ≡ IncompatibleServer → ⊥
 refused_compatible e cause setup opened connection old new after first last same s is = compatible setup opened connection cause.kind old new after first last s (sym (ap (λ (c : Error). c.kind) same) ∙ is)

@@ -12,6 +12,7 @@ use Rattle.mongo_command.specs.Conversation.{Reached, StoppedKeeping, Stopped}
 use Rattle.mongo_command.specs.Hello.{description_of}
 use Rattle.mongo_command.proofs.FollowedBy.{stopped_first}
 use Rattle.mongo_command.proofs.Steps.{reached_unless, stopped_unless}
+use Rattle.mongo_command.specs.EndsExchange.{footing}
 use Rattle.mongo_establish.specs.declared.options.HandshakerOptions.{HandshakerOptions}
 use Rattle.mongo_establish.specs.Setup.{Setup, setup_alone}
 use Rattle.mongo_establish.specs.Established.{GreetedBy, UngreetedBy, IsReplyOf, Monitored}
@@ -28,7 +29,7 @@ module _ (address : ServerAddress) (number : ℕ) (options : HandshakerOptions) 
 
   -- ---- it was described
 
-  module _ (connection : Connection) (old new : State) (after : ℤ) (reply : HelloReply) (greeted : GreetedBy options None None opened connection old new id after reply) where
+  module _ (connection : Connection) (old new : State) (after : ℤ) (reply : HelloReply) (greeted : GreetedBy options None None (footing opened old id) (footing connection new after) reply) where
     abbrev greeting : Greeting
     greeting = greeting_in opened.address reply
 
@@ -64,7 +65,7 @@ module _ (address : ServerAddress) (number : ℕ) (options : HandshakerOptions) 
   stopped kind old new after s =
       (s.0, stopped_unless _ _ kind old new id after (λ k row. row) (subst (λ a. StoppedKeeping (hello_exchange options None None a) kind old new id after s.0) at s.1))
 
-  pub unmonitored : {T : Type 0} (r : Result T Error) (connection : Connection) (old new : State) (after : ℤ) → IfErr r (λ e. UngreetedBy options None None opened connection e.kind old new id after) → IfErr r (λ e. Stopped (hello_plan alone) e.kind old new id after)
+  pub unmonitored : {T : Type 0} (r : Result T Error) (connection : Connection) (old new : State) (after : ℤ) → IfErr r (λ e. UngreetedBy options None None e.kind (footing opened old id) (footing connection new after)) → IfErr r (λ e. Stopped (hello_plan alone) e.kind old new id after)
   unmonitored r connection old new after = IfErr-weaker r _ _ (λ e h. stopped e.kind old new after (kept_fault connection, h.stopped))
 
   pub unmonitored_whole : {T : Type 0} (r : Result T Error) (old new : State) (after : ℤ) → IfErr r (λ e. Stopped (hello_plan alone) e.kind old new id after) → IfErr r (λ e. Stopped (establishment_plan alone) e.kind old new id after)

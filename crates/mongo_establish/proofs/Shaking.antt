@@ -11,6 +11,7 @@ use Rattle.mongo_command.specs.Conversation.{HasNone, or_else, Reached, StoppedK
 use Rattle.mongo_command.specs.Hello.{description_of}
 use Rattle.mongo_command.proofs.Rest.{keeps_all}
 use Rattle.mongo_command.proofs.Steps.{reached_unless, stopped_unless}
+use Rattle.mongo_command.specs.EndsExchange.{footing}
 use Rattle.mongo_sasl.specs.declared.credential.Credential.{Credential}
 use Rattle.mongo_sasl.specs.Stops.{RefusedAtOnce}
 use Rattle.mongo_sasl.proofs.AtOnce.{at_once_more, at_once_keeping}
@@ -20,7 +21,7 @@ use Rattle.mongo_establish.specs.declared.client_first.ClientFirst.{ClientFirst}
 use Rattle.mongo_establish.specs.declared.answered_round.AnsweredRound.{AnsweredRound}
 use Rattle.mongo_establish.specs.declared.login_state.Nonces.{Nonces}
 use Rattle.mongo_establish.specs.declared.options.HandshakerOptions.{HandshakerOptions}
-use Rattle.mongo_establish.specs.Setup.{Setup, setup_over}
+use Rattle.mongo_establish.specs.Setup.{Setup, setup_over, start_of}
 use Rattle.mongo_establish.specs.Established.{HoldsGreeting, GreetedBy, UngreetedBy, IsReplyOf, ShookHands, StoppedHandshake}
 use Rattle.mongo_establish.specs.First.{IsFirstMessage, IsUnmade, IsRoundOf, first_document, scram_round, round_with}
 use Rattle.mongo_establish.specs.Greeting.{Greeting, greeting_in}
@@ -74,7 +75,7 @@ module _ (opened : Connection) (options : HandshakerOptions) (credential : Optio
     unmade_keeping : (kind : ErrorKind) (old : State) → NoFirst kind → StoppedKeeping (hello_plan setup) kind old old id id None
     unmade_keeping kind old h = at_once_keeping (hello_plan setup) kind old id (unmade kind h)
 
-    pub unmade_stopped : {T : Type 0} (r : Result T Error) (old : State) (first last : Ledgers) → kept_fault opened ≡ None → CostsNothing first last → IfErr r (λ e. NoFirst e.kind) → IfErr r (λ e. StoppedHandshake setup opened opened e.kind old old id first last)
+    pub unmade_stopped : {T : Type 0} (r : Result T Error) (old : State) (first last : Ledgers) → kept_fault opened ≡ None → CostsNothing first last → IfErr r (λ e. NoFirst e.kind) → IfErr r (λ e. StoppedHandshake setup opened opened e.kind (start_of setup old first) (checkpoint old id last))
     unmade_stopped (Ok x) old first last faultless nothing h = tt
     unmade_stopped (Err e) old first last faultless nothing h =
         inl (record { hello = subst (StoppedKeeping (hello_plan setup) e.kind old old id id) (sym faultless) (unmade_keeping e.kind old h); costs = nothing; undescribed = fresh; rest = keeps_all opened })
@@ -95,14 +96,14 @@ module _ (opened : Connection) (options : HandshakerOptions) (credential : Optio
     reached_so greeting old new after r =
         reached_unless _ _ greeting old new id after made (subst (λ login. Reached (hello_exchange options credential login opened.address) greeting old new id after) (first_speculation credential nonces.first first is_first) r)
 
-    pub ungreeted_stopped : {T : Type 0} (r : Result T Error) (connection : Connection) (old new : State) (after : ℤ) (first last : Ledgers) → CostsNothing first last → IfErr r (λ e. UngreetedBy options credential sent opened connection e.kind old new id after)
-        → IfErr r (λ e. StoppedHandshake setup opened connection e.kind old new after first last)
+    pub ungreeted_stopped : {T : Type 0} (r : Result T Error) (connection : Connection) (old new : State) (after : ℤ) (first last : Ledgers) → CostsNothing first last → IfErr r (λ e. UngreetedBy options credential sent e.kind (footing opened old id) (footing connection new after))
+        → IfErr r (λ e. StoppedHandshake setup opened connection e.kind (start_of setup old first) (checkpoint new after last))
     ungreeted_stopped (Ok x) connection old new after first last nothing h = tt
     ungreeted_stopped (Err e) connection old new after first last nothing h = inl (record { hello = stopped_so e.kind old new after h.stopped; costs = nothing; undescribed = h.undescribed; rest = h.rest })
 
     -- ---- the login
 
-    module _ (old middle : State) (between : ℤ) (reply : HelloReply) (described : Connection) (greeted : GreetedBy options credential sent opened described old middle id between reply) (round : Option AnsweredRound)
+    module _ (old middle : State) (between : ℤ) (reply : HelloReply) (described : Connection) (greeted : GreetedBy options credential sent (footing opened old id) (footing described middle between) reply) (round : Option AnsweredRound)
         (there : is_some round ≡ is_some (answer_to sent reply.command_response.speculative_authenticate)) (scram : speculated_of (scram_round round) ≡ round_with first reply.command_response.speculative_authenticate) where
       abbrev greeting : Greeting
       greeting = greeting_in opened.address reply
@@ -130,7 +131,7 @@ module _ (opened : Connection) (options : HandshakerOptions) (credential : Optio
           }
 
       pub login_stopped : {T : Type 0} (r : Result T Error) (connection : Connection) (new : State) (after : ℤ) (first last : Ledgers) → KeepsRest described connection
-          → IfErr r (λ e. LoginStops anew described.stream_description round e.kind (kept_fault connection) (checkpoint middle between first) (checkpoint new after last)) → IfErr r (λ e. StoppedHandshake setup opened connection e.kind old new after first last)
+          → IfErr r (λ e. LoginStops anew described.stream_description round e.kind (kept_fault connection) (checkpoint middle between first) (checkpoint new after last)) → IfErr r (λ e. StoppedHandshake setup opened connection e.kind (start_of setup old first) (checkpoint new after last))
       login_stopped (Ok x) connection new after first last later h = tt
       login_stopped (Err e) connection new after first last later h = inr (record {
         greeting = greeting;
@@ -155,7 +156,7 @@ module _ (opened : Connection) (options : HandshakerOptions) (credential : Optio
           })
 
       pub shook : (connection : Connection) (new : State) (after : ℤ) (first last : Ledgers) (answer : HelloReply) → KeepsRest described connection → kept_fault connection ≡ None → answer ≡ taken_out reply sent
-          → LogsIn anew described.stream_description round (checkpoint middle between first) (checkpoint new after last) → ShookHands setup opened connection old new after first last answer
+          → LogsIn anew described.stream_description round (checkpoint middle between first) (checkpoint new after last) → ShookHands setup opened connection (start_of setup old first) (checkpoint new after last) answer
       shook connection new after first last answer later faultless is h =
           let login = reached_alike (pending_over described) (pending_over opened) options credential nonces between id greeting middle new between after (h.reached greeting greeted.described.holds.description_is held_round) in
           let whole = handshake_reached setup greeting old middle new between after hello_reached login in

@@ -1,10 +1,10 @@
 -- How an establishment ends over a link: all that is promised of it, for those who hand it on.
 use Rattle.std.specs.Prelude.{◌≡◌, ℕ, ℤ, ◌⊎◌, Some, List, Result, IfOk, IfErr}
 use Rattle.mongo_wire.specs.declared.error.ErrorKind.TheVariants.{IncompatibleServer, OutOfMemory}
-use Rattle.mongo_wire.specs.Outside.{State, Unfailed}
+use Rattle.mongo_wire.specs.Outside.{Unfailed}
 use Rattle.mongo_command.specs.Conversation.{Said, Turn, refuses, Leads, LeftBy}
 use Rattle.mongo_command.specs.Exchange.{CountsStay}
-use Rattle.mongo_scram.specs.Costs.{Ledgers, SameEntries}
+use Rattle.mongo_scram.specs.Costs.{Checkpoint, SameEntries}
 use Rattle.mongo_establish.specs.declared.establisher.EstablishError.{EstablishError}
 use Rattle.mongo_establish.specs.declared.establisher.PooledConnection.{PooledConnection}
 use Rattle.mongo_establish.specs.Setup.{Setup}
@@ -15,21 +15,21 @@ use Rattle.mongo_establish.specs.Plan.{establishment_plan}
 use Rattle.mongo_establish.specs.Script.{HasScript}
 use Rattle.mongo_establish.specs.Stopped.{StoppedIn}
 
--- The link stood so before and so after, the next id is this one, and the counter and the cache went on so.
-pub record EndsEstablishment (setup : Setup) (old new : State) (after : ℤ) (first last : Ledgers) (result : Result PooledConnection EstablishError) : Type 0 where
+-- It went from here to there.
+pub record EndsEstablishment (setup : Setup) (old new : Checkpoint) (result : Result PooledConnection EstablishError) : Type 0 where
   -- what was written and read is exactly a script, the connection is what its replies say, and what was derived and kept is what its login takes
-  pub established : IfOk result (Established setup old new after first last)
+  pub established : IfOk result (Established setup old new)
   -- a refusal says why it comes, how far the establishment had come, what it left, and what was derived
-  pub refused : IfErr result (λ e. StoppedIn e.handshake_phase setup e.cause.kind old new after first last)
+  pub refused : IfErr result (λ e. StoppedIn e.handshake_phase setup e.cause.kind old new)
   -- a script's replies at the front of the bytes left are answered by a connection, unless the link fails or memory runs out
-  pub complete : (bytes : List ℕ) → old.left ≡ Some bytes → HasScript setup bytes →
-      Unfailed old new → IfErr result (λ e. e.cause.kind ≡ OutOfMemory)
+  pub complete : (bytes : List ℕ) → old.state.left ≡ Some bytes → HasScript setup bytes →
+      Unfailed old.state new.state → IfErr result (λ e. e.cause.kind ≡ OutOfMemory)
   -- bytes left that call for a refusal get just that one, and the link is left as it says; those that lead to an end get none
-  pub exact : (bytes taken unread : List ℕ) (outcome : Turn Greeting) (commands : List Said) → old.left ≡ Some bytes → Leads (establishment_plan setup) bytes outcome commands taken unread →
-      Unfailed old new →
-      IfErr result (λ e. (e.cause.kind ≡ OutOfMemory) ⊎ ((outcome ≡ refuses e.cause.kind) × LeftBy commands unread old new setup.first_id after))
+  pub exact : (bytes taken unread : List ℕ) (outcome : Turn Greeting) (commands : List Said) → old.state.left ≡ Some bytes → Leads (establishment_plan setup) bytes outcome commands taken unread →
+      Unfailed old.state new.state →
+      IfErr result (λ e. (e.cause.kind ≡ OutOfMemory) ⊎ ((outcome ≡ refuses e.cause.kind) × LeftBy commands unread old.state new.state old.id new.id))
   -- the bytes left say which key was derived, if any, unless the link fails or memory runs out
-  pub led : CostsAsLed result setup old new first last
+  pub led : CostsAsLed result setup old.state new.state old.ledgers new.ledgers
   -- a refusal leaves the entries as they were, unless a login had been accepted
-  pub entries : IfErr result (λ e. (e.cause.kind ≡ IncompatibleServer) ⊎ SameEntries first last)
-  pub counts : CountsStay old new
+  pub entries : IfErr result (λ e. (e.cause.kind ≡ IncompatibleServer) ⊎ SameEntries old.ledgers new.ledgers)
+  pub counts : CountsStay old.state new.state

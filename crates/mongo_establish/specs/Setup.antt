@@ -1,11 +1,14 @@
 -- What a caller hands to one establishment.
 use Rattle.std.specs.Prelude.{ℕ, ℤ, Option, None, []}
+use Rattle.mongo_wire.specs.Outside.{State}
 use Rattle.mongo_command.specs.declared.connection.Connection.{Connection}
 use Rattle.mongo_command.specs.declared.server_address.ServerAddress.{ServerAddress}
 use Rattle.mongo_sasl.specs.declared.credential.Credential.{Credential}
 use Rattle.mongo_establish.specs.declared.establisher.PendingConnection.{PendingConnection}
 use Rattle.mongo_establish.specs.declared.generation.PoolGeneration.TheVariants.{Normal}
 use Rattle.mongo_establish.specs.declared.options.HandshakerOptions.{HandshakerOptions}
+use Rattle.mongo_scram.specs.Costs.{Ledgers, ledgers, Checkpoint, checkpoint}
+use Rattle.mongo_establish.specs.declared.login_state.LoginState.{LoginState}
 use Rattle.mongo_establish.specs.declared.login_state.Nonces.{Nonces}
 
 -- all of it: the definitions of an establishment speak of nothing else
@@ -30,3 +33,13 @@ setup_over connection options credential nonces first_id = setup_for (record { i
 -- monitoring asks for a hello alone, without nonces
 abbrev pub setup_alone : ServerAddress → ℕ → HandshakerOptions → ℤ → Setup
 setup_alone address id options first_id = setup_for (record { id = id; address = address; generation = Normal 0 }) options None (record { first = []; second = [] }) first_id
+
+-- ---- where an establishment is
+
+-- at its begin, over a link that stands so
+abbrev pub start_of : Setup → State → Ledgers → Checkpoint
+start_of setup link ledgers = checkpoint link setup.first_id ledgers
+
+-- with what is kept from one login to the next, and a counter of so many steps
+abbrev pub checkpoint_with : State → LoginState → ℕ → Checkpoint
+checkpoint_with link state steps = checkpoint link state.ids (ledgers steps state.salted)

@@ -3,7 +3,7 @@ use Rattle.std.specs.Prelude.{◌≡◌, ℕ, ℤ, ◌⊎◌, List}
 use Rattle.mongo_wire.specs.declared.error.ErrorKind.{ErrorKind}
 use Rattle.mongo_wire.specs.Outside.{State}
 use Rattle.mongo_command.specs.Conversation.{Said, refuses, ends, Reached, Stopped, Leads}
-use Rattle.mongo_scram.specs.Costs.{Ledgers, Checkpoint, checkpoint, CostsNothing}
+use Rattle.mongo_scram.specs.Costs.{Checkpoint, checkpoint, CostsNothing}
 use Rattle.mongo_establish.specs.declared.generation.ConnectionGeneration.{ConnectionGeneration}
 use Rattle.mongo_establish.specs.declared.establisher.HandshakePhase.{HandshakePhase}
 use Rattle.mongo_establish.specs.declared.establisher.HandshakePhase.TheVariants.{PreHello, PostHello}
@@ -28,19 +28,19 @@ pub record UnnamedAfterLogin (setup : Setup) (greeting : Greeting) (kind : Error
   pub unnamed : NoService setup.pending.generation greeting.description kind
 
 -- the hello had described the server, and what follows it was stopped, from where the hello had ended
-pub record StoppedAfterHello (setup : Setup) (generation : ConnectionGeneration) (kind : ErrorKind) (old new : State) (after : ℤ) (first last : Ledgers) : Type 0 where
+pub record StoppedAfterHello (setup : Setup) (generation : ConnectionGeneration) (kind : ErrorKind) (old new : Checkpoint) : Type 0 where
   pub greeting : Greeting
   pub middle : State
   pub between : ℤ
-  pub hello : Reached (hello_plan setup) greeting old middle setup.first_id between
+  pub hello : Reached (hello_plan setup) greeting old.state middle old.id between
   pub generation_is : generation ≡ generation_of setup.pending.generation greeting.description
-  pub stopped : LoginRefused setup greeting kind (checkpoint middle between first) (checkpoint new after last) ⊎ UnnamedAfterLogin setup greeting kind (checkpoint middle between first) (checkpoint new after last)
+  pub stopped : LoginRefused setup greeting kind (checkpoint middle between old.ledgers) new ⊎ UnnamedAfterLogin setup greeting kind (checkpoint middle between old.ledgers) new
 
 -- The phase says which part was stopped: the hello, with the pool's generation, which costs nothing, or what follows it, with
 -- the connection's.
-abbrev pub StoppedIn : HandshakePhase → Setup → ErrorKind → State → State → ℤ → Ledgers → Ledgers → Type 0
-StoppedIn (PreHello generation) setup kind old new after first last = (generation ≡ setup.pending.generation) × Stopped (hello_plan setup) kind old new setup.first_id after × CostsNothing first last
-StoppedIn (PostHello generation) setup kind old new after first last = StoppedAfterHello setup generation kind old new after first last
+abbrev pub StoppedIn : HandshakePhase → Setup → ErrorKind → Checkpoint → Checkpoint → Type 0
+StoppedIn (PreHello generation) setup kind old new = (generation ≡ setup.pending.generation) × Stopped (hello_plan setup) kind old.state new.state old.id new.id × CostsNothing old.ledgers new.ledgers
+StoppedIn (PostHello generation) setup kind old new = StoppedAfterHello setup generation kind old new
 
 -- ---- what reply bytes call for
 

@@ -47,10 +47,11 @@ impl Handshaker {
     ghost use Rattle.mongo_wire.specs.Outside.{Unfailed};
     ghost use Rattle.mongo_command.specs.Connection.{kept_fault};
     ghost use Rattle.mongo_command.specs.Conversation.{Said, Turn, refuses, Leads, LeftBy};
+    ghost use Rattle.mongo_command.specs.EndsExchange.{footing};
     ghost use Rattle.mongo_command.specs.Exchange.{CountsStay, DocumentRefused};
     ghost use Rattle.mongo_scram.specs.Cache.{entries_of};
     ghost use Rattle.mongo_scram.specs.Costs.{ledgers};
-    ghost use Rattle.mongo_establish.specs.Setup.{setup_over};
+    ghost use Rattle.mongo_establish.specs.Setup.{setup_over, checkpoint_with};
     ghost use Rattle.mongo_establish.specs.Client.{common_hello, hello_with};
     ghost use Rattle.mongo_establish.specs.Established.{GreetedBy, UngreetedBy, ShookHands, StoppedHandshake};
     ghost use Rattle.mongo_establish.specs.First.{first_document};
@@ -107,12 +108,12 @@ impl Handshaker {
         // What was written and read is exactly a script, the connection and the reply are what its replies say, and so is what was
         // derived.
         ensures shook { IfOk result (ShookHands (setup_over connection.old (options_in self.now) (option_copied credential.entry) inputs.now.nonces state.old.ids) connection.old connection.new
-            (L.state link.old) (L.state link.new) state.new.ids (ledgers steps.old state.old.salted) (ledgers steps.new state.new.salted)) }
+            (checkpoint_with (L.state link.old) state.old steps.old) (checkpoint_with (L.state link.new) state.new steps.new)) }
 
         // A refusal says why it comes, how far the handshake had come, what it left and what was derived: the connection keeps the
         // fault of an exchange that failed, where that left one, and else none.
         ensures refused { IfErr result (λ e. StoppedHandshake (setup_over connection.old (options_in self.now) (option_copied credential.entry) inputs.now.nonces state.old.ids) connection.old connection.new e.kind
-            (L.state link.old) (L.state link.new) state.new.ids (ledgers steps.old state.old.salted) (ledgers steps.new state.new.salted)) }
+            (checkpoint_with (L.state link.old) state.old steps.old) (checkpoint_with (L.state link.new) state.new steps.new)) }
 
         // A script's replies at the front of the bytes left are answered by Ok, unless the link fails or memory runs out.
         ensures complete { (bytes : List ℕ) → (L.state link.old).left ≡ Some bytes → HasScript (setup_over connection.old (options_in self.now) (option_copied credential.entry) inputs.now.nonces state.old.ids) bytes →
@@ -158,10 +159,8 @@ impl Handshaker {
     ) -> Result<HelloReply, Error>
         requires undescribed { connection.old.stream_description ≡ None }
         requires faultless { kept_fault connection.old ≡ None }
-        ensures greeted { IfOk result (GreetedBy (options_in self.now) (option_copied credential.entry) (option_map first_document first.now) connection.old connection.new
-            (L.state link.old) (L.state link.new) ids.old ids.new) }
-        ensures refused { IfErr result (λ e. UngreetedBy (options_in self.now) (option_copied credential.entry) (option_map first_document first.now) connection.old connection.new e.kind
-            (L.state link.old) (L.state link.new) ids.old ids.new) }
+        ensures greeted { IfOk result (GreetedBy (options_in self.now) (option_copied credential.entry) (option_map first_document first.now) (footing connection.old (L.state link.old) ids.old) (footing connection.new (L.state link.new) ids.new)) }
+        ensures refused { IfErr result (λ e. UngreetedBy (options_in self.now) (option_copied credential.entry) (option_map first_document first.now) e.kind (footing connection.old (L.state link.old) ids.old) (footing connection.new (L.state link.new) ids.new)) }
         ensures counts { CountsStay (L.state link.old) (L.state link.new) }
     {
         let hello = self.login_hello(alloc, credential, first)?;

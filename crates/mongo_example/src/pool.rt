@@ -31,6 +31,7 @@ impl Pool {
     ghost use Rattle.mongo_scram.specs.Costs.{ledgers};
     ghost use Rattle.mongo_establish.specs.declared.generation.PoolGeneration.TheVariants.{Normal};
     ghost use Rattle.mongo_establish.specs.Ending.{EndsEstablishment};
+    ghost use Rattle.mongo_establish.specs.Setup.{checkpoint_with};
     ghost use Rattle.mongo_example.specs.Pool.{IsFresh, IsReady, KeepsPool, setup_by_pool};
 
     /// A pool for `user` at `db.example.net`, of generation 7, that has made no connection.
@@ -82,8 +83,7 @@ impl Pool {
     ) -> Result<PooledConnection, EstablishError>
         ensures ready { IfOk result (IsReady pending) }
         // All that `establish_connection` promises: of the connection or the refusal, of the link, of the counter and of the keys.
-        ensures ended { EndsEstablishment (setup_by_pool self.old pending inputs.now.nonces) (L.state link.old) (L.state link.new) self.new.state.ids
-            (ledgers steps.old self.old.state.salted) (ledgers steps.new self.new.state.salted) result }
+        ensures ended { EndsEstablishment (setup_by_pool self.old pending inputs.now.nonces) (checkpoint_with (L.state link.old) self.old.state steps.old) (checkpoint_with (L.state link.new) self.new.state steps.new) result }
         // The pool's rounds don't fall.
         ensures rounds { rounds_of self.old.state.salted ≤ rounds_of self.new.state.salted }
 

@@ -11,12 +11,12 @@ use Rattle.mongo_wire.specs.Message.{ReadRefused}
 use Rattle.mongo_wire.specs.Outside.{State}
 use Rattle.mongo_command.specs.Conversation.{Plan, StoppedKeeping, Reached}
 use Rattle.mongo_command.specs.Exchange.{ExchangeRefused, SendRefused, Unsent, Cut}
-use Rattle.mongo_scram.specs.Costs.{Ledgers}
+use Rattle.mongo_scram.specs.Costs.{Ledgers, checkpoint}
 use Rattle.mongo_establish.specs.declared.establisher.EstablishError.{EstablishError}
 use Rattle.mongo_establish.specs.declared.establisher.HandshakePhase.{HandshakePhase}
 use Rattle.mongo_establish.specs.declared.establisher.HandshakePhase.TheVariants.{PreHello, PostHello}
 use Rattle.mongo_establish.specs.declared.establisher.PooledConnection.{PooledConnection}
-use Rattle.mongo_establish.specs.Setup.{Setup}
+use Rattle.mongo_establish.specs.Setup.{Setup, start_of}
 use Rattle.mongo_establish.specs.Established.{Established}
 use Rattle.mongo_establish.specs.Stopped.{StoppedIn}
 
@@ -74,7 +74,7 @@ stopped plan kind old new before after is =
 
 -- ---- an establishment
 
-stopped_in : (phase : HandshakePhase) (setup : Setup) (kind : ErrorKind) (old new : State) (after : ℤ) (first last : Ledgers) → StoppedIn phase setup kind old new after first last → TakesSome old.left new.left
+stopped_in : (phase : HandshakePhase) (setup : Setup) (kind : ErrorKind) (old new : State) (after : ℤ) (first last : Ledgers) → StoppedIn phase setup kind (start_of setup old first) (checkpoint new after last) → TakesSome old.left new.left
 stopped_in (PreHello generation) setup kind old new after first last is = stopped _ kind old new _ after is.1.1
 stopped_in (PostHello generation) setup kind old new after first last is =
     more_taken old.left is.middle.left new.left (reached _ is.greeting old is.middle _ _ is.hello)
@@ -87,8 +87,8 @@ shorter : (bytes left : List ℕ) → TakesSome (Some bytes) (Some left) → len
 shorter bytes left is = let parts : length bytes ≡ length is.0 + length left = ap length is.1 ∙ length-append is.0 left in omega (arith, parts)
 
 -- what is left isn't longer than what was left before
-pub left_within : (setup : Setup) (old new : State) (after : ℤ) (first last : Ledgers) (bytes left : List ℕ) (ended : Result PooledConnection EstablishError) → IfOk ended (Established setup old new after first last)
-    → IfErr ended (λ e. StoppedIn e.handshake_phase setup e.cause.kind old new after first last) → old.left ≡ Some bytes → new.left ≡ Some left → length left ≤ length bytes
+pub left_within : (setup : Setup) (old new : State) (after : ℤ) (first last : Ledgers) (bytes left : List ℕ) (ended : Result PooledConnection EstablishError) → IfOk ended (Established setup (start_of setup old first) (checkpoint new after last))
+    → IfErr ended (λ e. StoppedIn e.handshake_phase setup e.cause.kind (start_of setup old first) (checkpoint new after last)) → old.left ≡ Some bytes → new.left ≡ Some left → length left ≤ length bytes
 left_within setup old new after first last bytes left (Ok pooled) made refused was is =
     let replies = made.scripted.taken bytes was in
     shorter bytes left (replies.taken, replies.joined ∙ ap (λ rest. replies.taken ++ rest) (same_some replies.rest left (sym replies.left_is ∙ is))) where

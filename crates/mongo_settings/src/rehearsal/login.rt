@@ -4,6 +4,7 @@ ghost use Rattle.mongo_wire.specs.declared.error.ErrorKind.TheVariants.{OutOfMem
 ghost use Rattle.mongo_scram.specs.Costs.{ledgers};
 ghost use Rattle.mongo_establish.specs.Ending.{EndsEstablishment};
 ghost use Rattle.mongo_establish.specs.Options.{client_spec, options_of, options_of_establisher};
+ghost use Rattle.mongo_establish.specs.Setup.{start_of, checkpoint_with};
 ghost use Rattle.mongo_establish.specs.Speculation.{SpeaksFor};
 ghost use Rattle.mongo_settings.specs.Login.{setup_by, HasSetupOf};
 
@@ -83,7 +84,7 @@ pub fn connect<L: Link, G: Ledger>(
 ) -> Result<PooledConnection, EstablishError>
     requires spoken { SpeaksFor login.credential }
     // All that `establish_connection` promises, of what the login asks for.
-    ensures ended { EndsEstablishment (setup_by login) (L.state link.old) (L.state link.new) state.new.ids (ledgers steps.old state.old.salted) (ledgers steps.new state.new.salted) result }
+    ensures ended { EndsEstablishment (setup_by login) (start_of (setup_by login) (L.state link.old) (ledgers steps.old state.old.salted)) (checkpoint_with (L.state link.new) state.new steps.new) result }
     ensures steps { steps.old ≤ steps.new }
 {
     let PreparedLogin {
