@@ -159,8 +159,10 @@ impl Handshaker {
     ) -> Result<HelloReply, Error>
         requires undescribed { connection.old.stream_description ≡ None }
         requires faultless { kept_fault connection.old ≡ None }
-        ensures greeted { IfOk result (GreetedBy (options_in self.now) (option_copied credential.entry) (option_map first_document first.now) (footing connection.old (L.state link.old) ids.old) (footing connection.new (L.state link.new) ids.new)) }
-        ensures refused { IfErr result (λ e. UngreetedBy (options_in self.now) (option_copied credential.entry) (option_map first_document first.now) e.kind (footing connection.old (L.state link.old) ids.old) (footing connection.new (L.state link.new) ids.new)) }
+        ensures greeted { IfOk result (GreetedBy (options_in self.now) (option_copied credential.entry) (option_map first_document first.now)
+            (footing connection.old (L.state link.old) ids.old) (footing connection.new (L.state link.new) ids.new)) }
+        ensures refused { IfErr result (λ e. UngreetedBy (options_in self.now) (option_copied credential.entry) (option_map first_document first.now) e.kind
+            (footing connection.old (L.state link.old) ids.old) (footing connection.new (L.state link.new) ids.new)) }
         ensures counts { CountsStay (L.state link.old) (L.state link.new) }
     {
         let hello = self.login_hello(alloc, credential, first)?;

@@ -83,7 +83,8 @@ impl Pool {
     ) -> Result<PooledConnection, EstablishError>
         ensures ready { IfOk result (IsReady pending) }
         // All that `establish_connection` promises: of the connection or the refusal, of the link, of the counter and of the keys.
-        ensures ended { EndsEstablishment (setup_by_pool self.old pending inputs.now.nonces) (checkpoint_with (L.state link.old) self.old.state steps.old) (checkpoint_with (L.state link.new) self.new.state steps.new) result }
+        ensures ended { EndsEstablishment (setup_by_pool self.old pending inputs.now.nonces)
+            (checkpoint_with (L.state link.old) self.old.state steps.old) (checkpoint_with (L.state link.new) self.new.state steps.new) result }
         // The pool's rounds don't fall.
         ensures rounds { rounds_of self.old.state.salted ≤ rounds_of self.new.state.salted }
 

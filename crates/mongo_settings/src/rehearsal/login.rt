@@ -84,7 +84,8 @@ pub fn connect<L: Link, G: Ledger>(
 ) -> Result<PooledConnection, EstablishError>
     requires spoken { SpeaksFor login.credential }
     // All that `establish_connection` promises, of what the login asks for.
-    ensures ended { EndsEstablishment (setup_by login) (start_of (setup_by login) (L.state link.old) (ledgers steps.old state.old.salted)) (checkpoint_with (L.state link.new) state.new steps.new) result }
+    ensures ended { EndsEstablishment (setup_by login)
+        (start_of (setup_by login) (L.state link.old) (ledgers steps.old state.old.salted)) (checkpoint_with (L.state link.new) state.new steps.new) result }
     ensures steps { steps.old ≤ steps.new }
 {
     let PreparedLogin {
