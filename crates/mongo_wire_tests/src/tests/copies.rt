@@ -1,9 +1,12 @@
 // A copy wants memory, and where it is there each copy says what it was made of.
-use super::message_with_sequence;
+use super::small::next_header;
+use super::ways::{Way, held, read_by};
+use super::{EMPTY_MESSAGE, Told, end, failing_link, giving, message_with_sequence};
 use mongo_bson::{BsonFault, Items, RawDocumentBuf, Text, Texts};
 use mongo_wire::{
-    AuthFault, CommandError, Error, ErrorKind, IndexedWriteError, InsertManyError, Message,
-    WriteConcernError, WriteError, WriteFailure, WriteFailureCause,
+    AuthFault, CommandError, Error, ErrorKind, FailingLink, FrameBuffer, Header, IndexedWriteError,
+    InsertManyError, Link, MemoryLink, Message, Sink, Source, WriteConcernError, WriteError,
+    WriteFailure, WriteFailureCause,
 };
 use std::alloc::Global;
 use std::fmt::Debug;
@@ -193,5 +196,92 @@ const MESSAGE: &str =
 fn a_message_is_copied(rt: HostRuntime) -> Result<(), Fail> {
     let alloc = rt.alloc();
     assert!(rt; is_copied_as(alloc, message_with_sequence(alloc), MESSAGE)?);
+    Ok(())
+}
+
+// Whether the buffer shows the empty message as its first frame.
+fn shows_first(buffer: &FrameBuffer) -> bool {
+    let is_first = buffer.frames() == 1 && held(buffer) == Some((26, 0, 6, 5));
+    is_first && buffer.as_bytes() == &EMPTY_MESSAGE[16..]
+}
+
+// Whether the buffer shows it, and a copy still does once a read that ended has cleared the buffer.
+fn is_frame_copied(alloc: Global) -> Result<bool, Fail> {
+    let mut link = giving(alloc, &EMPTY_MESSAGE)?;
+    let mut buffer = FrameBuffer::new(alloc);
+    let came = read_by(Way::ReadFrame, alloc, &mut link, &mut buffer).is_ok()
+        && shows_first(&buffer);
+    let copy = buffer.try_clone(alloc)?;
+    let has_ended = read_by(Way::ReadFrame, alloc, &mut link, &mut buffer).is_err();
+    Ok(came && has_ended && !shows_first(&buffer) && shows_first(&copy))
+}
+
+#[test]
+fn a_buffer_is_copied_with_its_frame(rt: HostRuntime) -> Result<(), Fail> {
+    assert!(rt; is_frame_copied(rt.alloc())?);
+    Ok(())
+}
+
+// A link that tells what was written to it and what is left, and is copied.
+trait Listed: Link {
+    fn copy(&self, alloc: Global) -> Result<Self, BsonFault>;
+
+    fn has(&self, written: &[u8], left: &[u8]) -> bool;
+}
+
+impl Listed for MemoryLink {
+    fn copy(&self, alloc: Global) -> Result<MemoryLink, BsonFault> {
+        self.try_clone(alloc)
+    }
+
+    fn has(&self, written: &[u8], left: &[u8]) -> bool {
+        self.written() == written && self.left() == left
+    }
+}
+
+impl Listed for FailingLink {
+    fn copy(&self, alloc: Global) -> Result<FailingLink, BsonFault> {
+        self.try_clone(alloc)
+    }
+
+    fn has(&self, written: &[u8], left: &[u8]) -> bool {
+        self.written() == written && self.left() == left
+    }
+}
+
+// How the write of a header ends, how much of it is written, and the count of write faults.
+type Seen<'a> = (Told, &'a [u8], u64);
+
+// Whether this is seen where a link of which the header of the empty message was read writes it.
+fn writes_so<L: Listed>(link: &mut L, header: Header, seen: Seen<'_>) -> bool {
+    let (told, written, faults) = seen;
+    end(header.write_to(link)) == told
+        && link.has(written, &EMPTY_MESSAGE[16..])
+        && link.write_faults() == faults
+}
+
+// Whether this is seen of a link and then of a copy that was made after the header was read.
+fn both_write_so<L: Listed + Drop>(
+    alloc: Global,
+    link: Result<L, Fail>,
+    seen: Seen<'_>,
+) -> Result<bool, Fail> {
+    let mut link = link?;
+    let Ok(header) = next_header(&mut link) else {
+        return Ok(false);
+    };
+    let mut copy = link.copy(alloc)?;
+    Ok(writes_so(&mut link, header, seen) && writes_so(&mut copy, header, seen))
+}
+
+#[test]
+fn a_copy_of_a_link_goes_on_as_the_link_does(rt: HostRuntime) -> Result<(), Fail> {
+    let whole = giving(rt.alloc(), &EMPTY_MESSAGE);
+    let seen = (Told::Done, &EMPTY_MESSAGE[..16], 0);
+    assert!(rt; both_write_so(rt.alloc(), whole, seen)?);
+    // three bytes a call: six calls read the header, and the third after them fails
+    let failing = failing_link(rt.alloc(), &EMPTY_MESSAGE, 8, 3);
+    let seen = (Told::WriteFault, &EMPTY_MESSAGE[..6], 1);
+    assert!(rt; both_write_so(rt.alloc(), failing, seen)?);
     Ok(())
 }

@@ -1,4 +1,7 @@
-use super::{Told, end, failing_link, given, giving, message_with_sequence, or_told};
+use super::{
+    Told, end, failing_link, given, giving, message_over, message_with_sequence, one_sequence,
+    or_told,
+};
 use mongo_bson::RawDocumentBuf;
 use mongo_wire::{
     ArgumentFault, Header, MemoryLink, OpCode, RequestIds, ResponseFault, Sink, Source,
@@ -26,7 +29,7 @@ fn a_header_is_16_bytes(rt: HostRuntime) {
 }
 
 // The next header of a source, or why none is read.
-fn next_header<S: Source>(source: &mut S) -> Result<Header, Told> {
+pub(crate) fn next_header<S: Source>(source: &mut S) -> Result<Header, Told> {
     or_told(Header::read_from(source))
 }
 
@@ -64,23 +67,23 @@ fn numbers(reader: &mut SyncCountReader<MemoryLink>) -> Result<(i32, u32, u8), T
     Ok((signed, unsigned, byte))
 }
 
-// What is seen of ten bytes: three numbers and how many bytes they took, and whether a fourth is refused, with the source's count
+// What is seen of ten bytes: three numbers and how many bytes they took, and how the read of a fourth ends, with the source's count
 // of ends and the bytes that it took.
-type Counted = (Result<(i32, u32, u8), Told>, u64, bool, u64, u64);
+type Counted = (Result<(i32, u32, u8), Told>, u64, Told, u64, u64);
 
 fn counted(alloc: Global) -> Result<Counted, Fail> {
     let bytes = [0xfe, 0xff, 0xff, 0xff, 1, 2, 3, 0x84, 7, 9];
     let mut reader = SyncCountReader::new(giving(alloc, &bytes)?);
     let read = numbers(&mut reader);
     let taken = reader.bytes_read();
-    let refused = end(reader.read_u32_sync()) != Told::Done;
-    Ok((read, taken, refused, reader.ends(), reader.bytes_read()))
+    let fourth = end(reader.read_u32_sync());
+    Ok((read, taken, fourth, reader.ends(), reader.bytes_read()))
 }
 
 #[test]
 fn numbers_have_their_low_byte_first(rt: HostRuntime) -> Result<(), Fail> {
     let seen = counted(rt.alloc())?;
-    assert!(rt; seen == (Ok((-2, 0x8403_0201, 7)), 9, true, 1, 10));
+    assert!(rt; seen == (Ok((-2, 0x8403_0201, 7)), 9, Told::EndOfInput, 1, 10));
     Ok(())
 }
 
@@ -119,6 +122,21 @@ fn joined_document(alloc: Global) -> Result<RawDocumentBuf, Fail> {
 fn a_sequence_is_an_array_of_the_command_document(rt: HostRuntime) -> Result<(), Fail> {
     let document = joined_document(rt.alloc())?;
     assert!(rt; document.as_bytes() == COMMAND_DOCUMENT.as_slice());
+    Ok(())
+}
+
+// How the command document is made whose sequence has this identifier.
+fn joined_end(alloc: Global, identifier: &str) -> Result<Told, Fail> {
+    let message = message_over(alloc, one_sequence(alloc, identifier)?)?;
+    Ok(end(message.get_raw_command_document(alloc)))
+}
+
+#[test]
+fn an_identifier_with_a_zero_is_no_key_of_the_command_document(
+    rt: HostRuntime,
+) -> Result<(), Fail> {
+    let refused = Told::Argument(ArgumentFault::IdentifierHasZero);
+    assert!(rt; joined_end(rt.alloc(), "a\0b")? == refused);
     Ok(())
 }
 

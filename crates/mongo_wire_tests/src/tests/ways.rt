@@ -54,10 +54,15 @@ fn shown<T: Shows + Drop, E: Cause + Drop>(frame: Result<T, E>) -> Answer {
     }
 }
 
+// The numbers of the frame that the buffer holds.
+pub(crate) fn held(buffer: &FrameBuffer) -> Option<Numbers> {
+    buffer.message().numbers()
+}
+
 // What the buffer shows after a call that took a frame.
 fn held_after<E: Cause + Drop>(taken: Result<(), E>, buffer: &FrameBuffer) -> Answer {
     match end(taken) {
-        Told::Done => Ok(buffer.message().numbers()),
+        Told::Done => Ok(held(buffer)),
         told => Err(told),
     }
 }
