@@ -347,12 +347,15 @@ fn copy_closes(alloc: Global, close: &ClientFinal, message: &str) -> Result<bool
     Ok(given(close.try_clone(alloc))?.message() == message)
 }
 
-// Whether the messages are the row's, the client's last in its copy too, and the server's last is taken.
+// Whether the messages are the row's, the client's first after the header of RFC 5802 for no channel binding, its last as a payload and
+// in its copy too, and the server's last is taken.
 fn is_as_it_stands(alloc: Global, row: &Authentication<'_>, held: &Held) -> Result<bool, Fail> {
     let (salted, conversation) = held;
     let transcript = conversation.close.auth_message().as_bytes();
     let stands = conversation.open.message() == row.open
+        && conversation.open.gs2_header() == "n,,"
         && conversation.close.message() == row.close
+        && conversation.close.payload() == row.close.as_bytes()
         && signs_so(alloc, row, &Keys::new(row.version, salted), transcript)
         && final_fault(alloc, &row.version, held, 1, row.verifier.as_bytes()) == "none";
     Ok(stands && copy_closes(alloc, &conversation.close, row.close)?)
