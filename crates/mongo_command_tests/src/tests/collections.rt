@@ -1,6 +1,6 @@
-use super::given;
 use super::notation::document;
-use super::rows::wants;
+use super::rows::{wants, wants_whole};
+use super::{given, printed};
 use mongo_bson::{Bytes, Documents, RawArrayBuf, RawDocumentBuf, Text};
 use mongo_command::{Command, RawDocumentCollection};
 use mongo_wire::{MemoryLink, Message, RequestIds};
@@ -56,6 +56,8 @@ trait Carries {
 
     fn add_one(&mut self, alloc: Global) -> Result<(), Fail>;
 
+    fn add_under_zero(&mut self, alloc: Global, array: RawArrayBuf) -> Result<String, Fail>;
+
     fn into_frame(self, alloc: Global) -> Result<Bytes, Fail>;
 }
 
@@ -66,6 +68,10 @@ impl Carries for Command {
 
     fn add_one(&mut self, alloc: Global) -> Result<(), Fail> {
         add_one(alloc, self)
+    }
+
+    fn add_under_zero(&mut self, alloc: Global, array: RawArrayBuf) -> Result<String, Fail> {
+        printed(alloc, array.add_to_command(alloc, "a\0b", self))
     }
 
     fn into_frame(self, alloc: Global) -> Result<Bytes, Fail> {
@@ -201,4 +207,27 @@ fn a_sequence_stands_behind_the_document_and_an_array_in_it(rt: HostRuntime) -> 
     let named = frame_with_one(alloc, insert(alloc));
     wants_frame("a sequence by its name", named, BESIDE)?;
     wants_frame("a collection inside", frame_in(in_array(alloc, 1)), INSIDE)
+}
+
+// How an array is answered that is to stand under a name with a zero, and the frame of the insert then.
+fn under_zero<I: Carries + Drop>(
+    alloc: Global,
+    insert: Result<I, Fail>,
+) -> Result<(String, Bytes), Fail> {
+    let mut insert = insert?;
+    let told = insert.add_under_zero(alloc, RawArrayBuf::new(alloc)?)?;
+    Ok((told, insert.into_frame(alloc)?))
+}
+
+// The frame of an insert that carries nothing: a header of 16 bytes, 5 of flags and the kind, and that body of 30.
+const BARE: &[u8] =
+    b"\x33\0\0\0\0\0\0\0\0\0\0\0\xdd\x07\0\0\0\0\0\0\0\x1e\0\0\0\x02insert\0\x02\0\0\0c\0\x02$db\0\x02\0\0\0d\0\0";
+
+#[test]
+fn an_array_under_a_name_with_a_zero_is_refused(rt: HostRuntime) -> Result<(), Fail> {
+    let alloc = rt.alloc();
+    let (told, frame) = under_zero(alloc, insert(alloc))?;
+    let fault = "Err(Error { kind: InvalidArgument(Bson(KeyHasZero)) })";
+    wants_whole("an array", fault, told)?;
+    wants_frame("nothing", Ok(frame), BARE)
 }

@@ -1,12 +1,12 @@
 use super::notation::document;
 use super::rows::{RowCheck, check_rows, parts, wants_piece};
-use super::{Answered, hello_reply, response, text_of};
-use mongo_bson::{RawDocumentBuf, Text};
+use super::{Answered, given, hello_reply, response, text_of};
+use mongo_bson::{Bytes, RawDocumentBuf, Text};
 use mongo_command::{
     HelloCommandResponse, HelloReply, MemberTag, RawCommandResponse, ServerAddress,
     StreamDescription, Tags,
 };
-use mongo_wire::Error;
+use mongo_wire::{Error, MemoryLink, Message};
 use std::alloc::Global;
 use std::fmt::Debug;
 use std::test::Fail;
@@ -255,5 +255,33 @@ fn is_copied_of(alloc: Global, fields: &str) -> Result<bool, Fail> {
 #[test]
 fn a_reply_is_copied(rt: HostRuntime) -> Result<(), Fail> {
     assert!(rt; is_copied_of(rt.alloc(), "ok=int:1")?);
+    Ok(())
+}
+
+// A frame of the document `{ok: 1}`, laid out by the OP_MSG specification and BSON 1.1.
+const FRAME: &[u8] =
+    b"\x22\0\0\0\x01\0\0\0\0\0\0\0\xdd\x07\0\0\0\0\0\0\0\x0d\0\0\0\x10ok\0\x01\0\0\0\0";
+
+// The reply that its message is, from the socket `/s`.
+fn reply_by_message(alloc: Global) -> Result<RawCommandResponse, Fail> {
+    let path = Text::from_slice(alloc, "/s")?;
+    let mut link = MemoryLink::new(alloc, Bytes::from_slice(alloc, FRAME)?);
+    let message = given(Message::read_from(alloc, &mut link, None))?;
+    Ok(RawCommandResponse::new(ServerAddress::Unix { path }, message))
+}
+
+fn is_from_socket(reply: &RawCommandResponse) -> bool {
+    match reply.source_address() {
+        ServerAddress::Unix { path } => path.as_str() == "/s",
+        ServerAddress::Tcp { .. } => false,
+    }
+}
+
+/// A message that came is a reply of its body, which the reply gives back.
+#[test]
+fn a_message_is_a_reply_of_its_body(rt: HostRuntime) -> Result<(), Fail> {
+    let reply = reply_by_message(rt.alloc())?;
+    assert!(rt; is_from_socket(&reply));
+    assert!(rt; reply.into_raw_document_buf().as_bytes() == &FRAME[21..]);
     Ok(())
 }
