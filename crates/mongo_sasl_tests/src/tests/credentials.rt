@@ -1,4 +1,4 @@
-use super::{CredentialTexts, bytes, credential, given};
+use super::{CredentialTexts, bytes, credential, given, text};
 use mongo_bson::{BsonFault, RawDocumentBuf};
 use mongo_sasl::{AuthMechanism, Credential, Moment};
 use mongo_wire::ArgumentFault;
@@ -21,13 +21,35 @@ fn is_copied(alloc: Global, user: &Credential) -> bool {
     }
 }
 
+fn properties(alloc: Global) -> Result<RawDocumentBuf, BsonFault> {
+    RawDocumentBuf::from_bytes(bytes(alloc, b"\x0b\0\0\0\x0aCASE\0\0")?)
+}
+
 // A credential with properties beside all else.
 fn whole(alloc: Global) -> Result<Credential, BsonFault> {
-    let properties = RawDocumentBuf::from_bytes(bytes(alloc, b"\x0b\0\0\0\x0aCASE\0\0")?)?;
+    let properties = properties(alloc)?;
     let mut made = credential(alloc, ANN)?;
     made.mechanism = Some(AuthMechanism::Plain);
     made.mechanism_properties = Some(properties);
     Ok(made)
+}
+
+// The same, its source and what follows set by calls.
+fn set_whole(alloc: Global) -> Result<Credential, BsonFault> {
+    let properties = properties(alloc)?;
+    let source = text(alloc, Some("orders"))?;
+    let made = credential(alloc, (Some("ann"), None, Some("pencil")))?;
+    Ok(
+        made.source(source)
+            .mechanism(Some(AuthMechanism::Plain))
+            .mechanism_properties(Some(properties)),
+    )
+}
+
+#[test]
+fn each_part_of_a_credential_is_set_by_its_call(rt: HostRuntime) -> Result<(), Fail> {
+    assert!(rt; set_whole(rt.alloc())? == whole(rt.alloc())?);
+    Ok(())
 }
 
 // Whether nothing of a credential is shown, its copy is it, and it is another than none.
