@@ -80,18 +80,18 @@ fn os(alloc: Global, given: &Given<'_>) -> Result<OsMetadata, BsonFault> {
     })
 }
 
-// The library of this version.
-fn library(alloc: Global, version: &str) -> Result<DriverInfo, BsonFault> {
+// The library of this version, which names what it runs on, or doesn't.
+fn library(alloc: Global, version: &str, platform: Option<&str>) -> Result<DriverInfo, BsonFault> {
     Ok(DriverInfo {
         name: Text::from_slice(alloc, "mapper")?,
         version: Some(Text::from_slice(alloc, version)?),
-        platform: None,
+        platform: text(alloc, platform)?,
     })
 }
 
 fn driver_info(alloc: Global, given: &Given<'_>) -> Result<Option<DriverInfo>, BsonFault> {
     match given.library {
-        Some(version) => Ok(Some(library(alloc, version)?)),
+        Some(version) => Ok(Some(library(alloc, version, None)?)),
         None => Ok(None),
     }
 }

@@ -11,18 +11,23 @@ const MAPPED: Given<'static> = Given {
     ..NOTHING
 };
 
-// Adds the library of this version, and says whether the metadata is another than its copy then.
-fn changes(alloc: Global, metadata: &mut ClientMetadata, version: &str) -> Result<bool, Fail> {
+// Adds the library of this version and platform, and says whether the metadata is another than its copy then.
+fn changes(
+    alloc: Global,
+    metadata: &mut ClientMetadata,
+    version: &str,
+    platform: Option<&str>,
+) -> Result<bool, Fail> {
     let made = metadata.try_clone(alloc)?;
-    outcome(metadata.append(library(alloc, version)?))?;
+    outcome(metadata.append(library(alloc, version, platform)?))?;
     Ok(*metadata != made)
 }
 
-// Whether the driver has this name and version, and the platform is as it was.
-fn is_driver(metadata: &ClientMetadata, name: &str, version: &str) -> bool {
+// Whether the driver has this name and version, and this is the platform.
+fn is_driver(metadata: &ClientMetadata, name: &str, version: &str, platform: &str) -> bool {
     metadata.driver.name.as_str() == name
         && metadata.driver.version.as_str() == version
-        && metadata.platform.as_str() == "rattle / sync"
+        && metadata.platform.as_str() == platform
 }
 
 // Whether the application has this name, in a copy of it.
@@ -38,13 +43,15 @@ trait Grows {
     fn grows_once(&mut self, alloc: Global) -> Result<bool, Fail>;
 }
 
-// Whether a library that added itself before adds nothing, and one of another version its name and its version.
+// Whether a library that added itself before adds nothing, and one of another version its name, its version and what it runs on: each
+// goes behind the driver's own, after a bar.
 impl Grows for ClientMetadata {
     fn grows_once(&mut self, alloc: Global) -> Result<bool, Fail> {
-        let again = changes(alloc, self, "2")?;
-        let is_once = is_driver(self, "mongo-rust-driver|mapper", "3.9.1|2");
-        let other = changes(alloc, self, "3")?;
-        let is_twice = is_driver(self, "mongo-rust-driver|mapper|mapper", "3.9.1|2|3");
+        let again = changes(alloc, self, "2", None)?;
+        let is_once = is_driver(self, "mongo-rust-driver|mapper", "3.9.1|2", "rattle / sync");
+        let other = changes(alloc, self, "3", Some("web"))?;
+        let name = "mongo-rust-driver|mapper|mapper";
+        let is_twice = is_driver(self, name, "3.9.1|2|3", "rattle / sync|web");
         Ok(!again && is_once && other && is_twice && is_application(alloc, self, "shop")?)
     }
 }
