@@ -14,7 +14,7 @@ enum Wanted {
     Connection(&'static str, Option<u16>, u32, u32),
     /// The pool's number for each of the two services.
     Services(Option<u32>, Option<u32>),
-    /// Every key that is built, each with another value than that of its absence.
+    /// Every key that is built but `unix`, which can't stand beside `host`: each with another value than that of its absence.
     Whole,
     /// The values of keys that are absent.
     Defaults,
@@ -77,53 +77,83 @@ fn are_numbered(settings: &Settings, first_id: i32, max_iterations: u32, nonce: 
         && settings.max_iterations == max_iterations
 }
 
-fn say(settings: &Settings, wanted: Wanted) -> bool {
+// Where the connection goes, its id and what the client is made of, as they are printed: where every key is given, and where none
+// is but `host`.
+const WHOLE: &str =
+    r#"Tcp { host: Text { text: "h" }, port: Some(3) } 2 ClientOptions { app_name: Some(Text { text: "a" }), driver_info: Some(DriverInfo { name: Text { text: "n" }, version: Some(Text { text: "v" }), platform: Some(Text { text: "l" }) }), server_api: Some(ServerApi { version: V1, strict: Some(true), deprecation_errors: Some(false) }), load_balanced: true, os: OsMetadata { os_type: Text { text: "t" }, name: Some(Text { text: "o" }), architecture: Some(Text { text: "c" }), version: Some(Text { text: "w" }) }, platform: Text { text: "f" }, platform_short: Text { text: "g" }, environment: Environment { variables: Items { held: [Variable { name: Text { text: "E" }, value: Text { text: "e" } }] }, dockerenv: true } }"#;
+
+const DEFAULTS: &str =
+    r#"Tcp { host: Text { text: "h" }, port: None } 1 ClientOptions { app_name: None, driver_info: None, server_api: None, load_balanced: false, os: OsMetadata { os_type: Text { text: "linux" }, name: None, architecture: Some(Text { text: "x86_64" }), version: None }, platform: Text { text: "rattle / sync" }, platform_short: Text { text: "rattle" }, environment: Environment { variables: Items { held: [] }, dockerenv: false } }"#;
+
+fn is_printed_as(alloc: Global, settings: &Settings, text: &str) -> bool {
+    let pending = &settings.pending;
+    match format!(in alloc;
+        "{:?} {} {:?}",
+        pending.address, pending.id, settings.options
+    ) {
+        Ok(printed) => printed.as_str() == text,
+        Err(_) => false,
+    }
+}
+
+fn are_services(settings: &Settings, first: Option<u32>, second: Option<u32>) -> bool {
+    match &settings.pending.generation {
+        PoolGeneration::LoadBalanced(numbers) => are_numbers(numbers, first, second),
+        PoolGeneration::Normal(_) => false,
+    }
+}
+
+fn is_whole(settings: &Settings) -> bool {
+    let Some(credential) = &settings.credential else {
+        return false;
+    };
+    is_whole_credential(credential)
+        && are_numbered(settings, i32::MIN, 4096, 2)
+        && are_services(settings, Some(4), None)
+        && settings.replies.as_bytes() == [5].as_slice()
+}
+
+fn say(alloc: Global, settings: &Settings, wanted: Wanted) -> bool {
     match wanted {
         Wanted::Replies(replies) => settings.replies.as_bytes() == replies,
         Wanted::Connection(place, port, id, number) => is_connection(
             settings, place, port, id, number,
         ),
-        Wanted::Services(first, second) => match &settings.pending.generation {
-            PoolGeneration::LoadBalanced(numbers) => {
-                settings.options.load_balanced && are_numbers(numbers, first, second)
-            }
-            PoolGeneration::Normal(_) => false,
-        },
-        Wanted::Whole => match &settings.credential {
-            Some(credential) => is_whole_credential(credential)
-                && are_numbered(settings, i32::MIN, 4096, 2),
-            None => false,
-        },
+        Wanted::Services(first, second) => {
+            settings.options.load_balanced && are_services(settings, first, second)
+        }
+        Wanted::Whole => is_whole(settings) && is_printed_as(alloc, settings, WHOLE),
         Wanted::Defaults => {
             settings.credential.is_none()
                 && settings.replies.as_bytes().is_empty()
                 && are_numbered(settings, 0, 10_000_000, 0)
+                && is_printed_as(alloc, settings, DEFAULTS)
         }
     }
 }
 
 // What can say something, as settings do.
 trait Says {
-    fn says(&self, wanted: Wanted) -> bool;
+    fn says(&self, alloc: Global, wanted: Wanted) -> bool;
 }
 
 impl Says for Settings {
-    fn says(&self, wanted: Wanted) -> bool {
-        say(self, wanted)
+    fn says(&self, alloc: Global, wanted: Wanted) -> bool {
+        say(alloc, self, wanted)
     }
 }
 
 // Whether something was read that says this. Over any type, so that its proof doesn't walk through the parts of settings.
-fn is_said<T: Says + Drop>(read: Result<T, SettingsError>, wanted: Wanted) -> bool {
+fn is_said<T: Says + Drop>(alloc: Global, read: Result<T, SettingsError>, wanted: Wanted) -> bool {
     match read {
-        Ok(settings) => settings.says(wanted),
+        Ok(settings) => settings.says(alloc, wanted),
         Err(_) => false,
     }
 }
 
 // Whether a text is settings that say this.
 fn reads(alloc: Global, text: &str, wanted: Wanted) -> bool {
-    is_said(read_settings(alloc, text.as_bytes()), wanted)
+    is_said(alloc, read_settings(alloc, text.as_bytes()), wanted)
 }
 
 // Settings, and what they say: a port beside a path says nothing, and of two keys that name one service the later in byte
@@ -160,7 +190,7 @@ fn settings_at(place: u8) -> (&'static str, Wanted) {
             Wanted::Services(Some(8), Some(0)),
         ),
         8 => (
-            "{\"host\":\"h\",\"replies\":[\"05\"],\"first_id\":-2147483648,\"max_iterations\":4096,\"nonces\":[\"0202020202020202020202020202020202020202020202020202020202020202\",\"0303030303030303030303030303030303030303030303030303030303030303\"],\"credential\":{\"username\":\"u\",\"source\":\"s\",\"password\":\"p\",\"mechanism\":\"SCRAM-SHA-1\",\"properties\":{\"b\":\"x\",\"a\":[-1,\"y\"]}}}",
+            "{\"host\":\"h\",\"port\":3,\"id\":2,\"generation\":6,\"load_balanced\":true,\"generations\":{\"000102030405060708090a0b\":4},\"app_name\":\"a\",\"driver_info\":{\"name\":\"n\",\"version\":\"v\",\"platform\":\"l\"},\"server_api\":{\"version\":\"1\",\"strict\":true,\"deprecation_errors\":false},\"os\":{\"type\":\"t\",\"name\":\"o\",\"architecture\":\"c\",\"version\":\"w\"},\"platform\":\"f\",\"platform_short\":\"g\",\"environment\":[[\"E\",\"e\"]],\"dockerenv\":true,\"replies\":[\"05\"],\"first_id\":-2147483648,\"max_iterations\":4096,\"nonces\":[\"0202020202020202020202020202020202020202020202020202020202020202\",\"0303030303030303030303030303030303030303030303030303030303030303\"],\"credential\":{\"username\":\"u\",\"source\":\"s\",\"password\":\"p\",\"mechanism\":\"SCRAM-SHA-1\",\"properties\":{\"b\":\"x\",\"a\":[-1,\"y\"]}}}",
             Wanted::Whole,
         ),
         9 => (
