@@ -11,14 +11,14 @@ use Rattle.mongo_wire.specs.declared.op_code.OpCode.TheVariants.{Message, Query}
 use Rattle.mongo_service.specs.declared.fault.ServeFault.{ServeFault}
 use Rattle.mongo_service.specs.declared.fault.ServeFault.TheVariants.{ReplyTooLong}
 use Rattle.mongo_session.specs.declared.reply.Reply.{Reply}
-use Rattle.mongo_session.specs.declared.session.Session.{Session}
 use Rattle.mongo_session.specs.declared.serve_settings.ServeSettings.{ServeSettings}
 use Rattle.mongo_session.specs.Costs.{DocumentRounds, CostsRounds}
 use Rattle.mongo_session.specs.Login.{HasLoggedIn, Remembers}
 use Rattle.mongo_session.specs.Replies.{document_of_served}
 use Rattle.mongo_session.specs.Requests.{IsHello}
 use Rattle.mongo_service.specs.Cut.{HasCause, CountsFault, IsCut, IsPart}
-use Rattle.mongo_service.specs.Sent.{IsAnswerTo, IsLongMessage, IsLongReply, IsReplySent, IsSentInPart, IsSentToQuery, message_reply, query_reply, WantsNone, WriteCause}
+use Rattle.mongo_service.specs.Juncture.{Juncture, user_at}
+use Rattle.mongo_service.specs.Sent.{IsAnswerTo, IsLongMessage, IsLongReply, IsReplySent, IsSentInPart, IsSentToQuery, message_reply, outbox, query_reply, WantsNone, WriteCause}
 use Rattle.mongo_service.specs.Served.{FollowsHead, Lasts, PartEnds}
 use Rattle.mongo_session.specs.Answers.{IsDocumentAnswered}
 use Rattle.mongo_service.proofs.Lasts.{sent_flushed}
@@ -41,25 +41,28 @@ unsent : (fault : ServeFault) (n : ℕ) (bytes : List ℕ) → Some fault ≡ So
 unsent fault n bytes is = let same : fault ≡ ReplyTooLong = cc in subst (λ f. take (part_of f n) bytes ≡ []) (sym same) refl
 
 -- an OP_MSG was taken and answered, and the answer sent or cut
-pub message_part : (settings : ServeSettings) (requests : List (List ℕ)) (old mid new : State) (first last : ℕ) (before : Session) (id : ℤ) (after : Session) (later : ℤ) (frame : List ℕ) (parts : Frame) (document : List ℕ) → IsFrame frame parts → parts.body ≡ document
-    → Consumes old.left mid.left frame → mid.written ≡ old.written → Lasts old mid → WritesOn mid new → (reply : Reply) → IsDocumentAnswered settings before document after reply → CostsRounds (DocumentRounds settings document) first last → Remembers settings (requests ++ document ∷ []) after
-    → (to : ℤ) → to ≡ parts.request_id → (flags : ℕ) → flags ≡ parts.flags → (r : Result ⊤ ServeFault) → OnOk r (new.write_faults ≡ mid.write_faults) → OnOk r (IsReplySent mid new to flags reply id later) → OnErr r (IsSentInPart mid new to flags reply id) → IfErr r (λ fault. WriteCause (IsLongMessage (document_of_served reply)) fault mid new)
-    → PartEnds settings requests old new first last before id after later r
-message_part settings requests old mid new first last before id after later frame parts document is_frame body_is consumed unwritten lasts on reply answered cost remembers to to_is flags flags_are (Ok done) still h cut cause =
+pub message_part : (settings : ServeSettings) (requests : List (List ℕ)) (old new : Juncture) (mid : State) (frame : List ℕ) (parts : Frame) (document : List ℕ) → IsFrame frame parts → parts.body ≡ document → Consumes old.state.left mid.left frame → mid.written ≡ old.state.written
+    → Lasts old.state mid → WritesOn mid new.state → (reply : Reply) → IsDocumentAnswered settings old.basis.session document new.basis.session reply → CostsRounds (DocumentRounds settings document) old.steps new.steps → Remembers settings (requests ++ document ∷ []) new.basis.session
+    → (to : ℤ) → to ≡ parts.request_id → (flags : ℕ) → flags ≡ parts.flags → (r : Result ⊤ ServeFault) → OnOk r (new.state.write_faults ≡ mid.write_faults) → OnOk r (IsReplySent (outbox mid old.basis.id) (outbox new.state new.basis.id) to flags reply)
+    → OnErr r (IsSentInPart (outbox mid old.basis.id) (outbox new.state new.basis.id) to flags reply) → IfErr r (λ fault. WriteCause (IsLongMessage (document_of_served reply)) fault mid new.state) → PartEnds settings requests old new r
+message_part settings requests old new mid frame parts document is_frame body_is consumed unwritten lasts on reply answered cost remembers to to_is flags flags_are (Ok done) still h cut cause =
+    let id = old.basis.id in
+    let later = new.basis.id in
     let answer : IsAnswerTo parts.request_id parts.flags reply id later h.sent = subst (λ f. IsAnswerTo parts.request_id f reply id later h.sent) flags_are (subst (λ t. IsAnswerTo t flags reply id later h.sent) to_is h.is_answer) in
-    request_taken settings requests old mid new first last before id after later (record { frame = frame; document = document; sent = h.sent }) (inl (parts, is_frame, body_is)) consumed unwritten lasts still on h.appended h.flushed
+    request_taken settings requests old new mid (record { frame = frame; document = document; sent = h.sent }) (inl (parts, is_frame, body_is)) consumed unwritten lasts still on h.appended h.flushed
     (record { reply = reply; answered = answered; sent = inl (record { parts = parts; is_frame = is_frame; body_is = body_is; answer = answer }) })
     remembers cost
-message_part settings requests old mid new first last before id after later frame parts document is_frame body_is consumed unwritten lasts on reply answered cost remembers to to_is flags flags_are (Err fault) still h cut cause =
+message_part settings requests old new mid frame parts document is_frame body_is consumed unwritten lasts on reply answered cost remembers to to_is flags flags_are (Err fault) still h cut cause =
+    let id = old.basis.id in
     let reply_bytes = document_of_served reply in
     let n = part_of fault cut.front.0 in
     let bytes = message_reply id to reply_bytes in
-    let front = appends_part (IsLongMessage reply_bytes) fault cut.front.0 bytes mid new cut.front.1 cause in
+    let front = appends_part (IsLongMessage reply_bytes) fault cut.front.0 bytes mid new.state cut.front.1 cause in
     let sent = take n bytes in
-    request_cut (IsLongMessage reply_bytes) settings requests old mid new first last before id after.user fault (record { frame = frame; document = document; sent = sent })
+    request_cut (IsLongMessage reply_bytes) settings requests old new mid fault (record { frame = frame; document = document; sent = sent })
     (record {
       is_taken = inl (parts, is_frame, body_is);
-      after = after;
+      after = new.basis.session;
       reply = reply;
       answered = answered;
       user_is = refl;
@@ -71,35 +74,37 @@ message_part settings requests old mid new first last before id after later fram
             wanted = subst (λ f. WantsNone f → ⊥) flags_are cut.wanted;
             front = (n, ap (λ t. take n (message_reply id t reply_bytes)) to_is);
           });
-      too_long = λ is. (inl ((parts, is_frame, body_is), long_cause (IsLongMessage reply_bytes) fault mid new cause is), unsent fault cut.front.0 bytes is);
+      too_long = λ is. (inl ((parts, is_frame, body_is), long_cause (IsLongMessage reply_bytes) fault mid new.state cause is), unsent fault cut.front.0 bytes is);
     })
     consumed unwritten lasts on front cause remembers.user cost
 
 -- an OP_QUERY was taken and answered, and the answer sent or cut
-pub query_part : (settings : ServeSettings) (requests : List (List ℕ)) (old mid new : State) (first last : ℕ) (before : Session) (id : ℤ) (after : Session) (later : ℤ) (head body command : List ℕ) → IsQuery (head ++ body) command → length head ≡ 16
-    → Consumes old.left mid.left (head ++ body) → mid.written ≡ old.written → Lasts old mid → WritesOn mid new → (reply : Reply) → IsDocumentAnswered settings before command after reply → CostsRounds (DocumentRounds settings command) first last → IsHello command
-    → Remembers settings (requests ++ command ∷ []) after → (to : ℤ) → to ≡ signed_at 4 head → (r : Result ⊤ ServeFault) → OnOk r (new.write_faults ≡ mid.write_faults) → OnOk r (IsSentToQuery mid new to reply id later)
-    → OnErr r (AppendsFront mid.written new.written (query_reply id to (document_of_served reply))) → IfErr r (λ fault. WriteCause (IsLongReply (document_of_served reply)) fault mid new) → PartEnds settings requests old new first last before id after later r
-query_part settings requests old mid new first last before id after later head body command is_query sixteen consumed unwritten lasts on reply answered cost is_hello remembers to to_is (Ok done) still h front cause =
+pub query_part : (settings : ServeSettings) (requests : List (List ℕ)) (old new : Juncture) (mid : State) (head body command : List ℕ) → IsQuery (head ++ body) command → length head ≡ 16 → Consumes old.state.left mid.left (head ++ body) → mid.written ≡ old.state.written
+    → Lasts old.state mid → WritesOn mid new.state → (reply : Reply) → IsDocumentAnswered settings old.basis.session command new.basis.session reply → CostsRounds (DocumentRounds settings command) old.steps new.steps → IsHello command
+    → Remembers settings (requests ++ command ∷ []) new.basis.session → (to : ℤ) → to ≡ signed_at 4 head → (r : Result ⊤ ServeFault) → OnOk r (new.state.write_faults ≡ mid.write_faults) → OnOk r (IsSentToQuery (outbox mid old.basis.id) (outbox new.state new.basis.id) to reply)
+    → OnErr r (AppendsFront mid.written new.state.written (query_reply old.basis.id to (document_of_served reply))) → IfErr r (λ fault. WriteCause (IsLongReply (document_of_served reply)) fault mid new.state) → PartEnds settings requests old new r
+query_part settings requests old new mid head body command is_query sixteen consumed unwritten lasts on reply answered cost is_hello remembers to to_is (Ok done) still h front cause =
+    let id = old.basis.id in
     let sent = query_reply id to (document_of_served reply) in
     let to_front : to ≡ signed_at 4 (take 16 (head ++ body)) = to_is ∙ ap (signed_at 4) (sym (take_at head body 16 sixteen)) in
-    request_taken settings requests old mid new first last before id after later (record { frame = head ++ body; document = command; sent = sent }) (inr is_query) consumed unwritten lasts still on h.appended (sent_flushed mid new sent h.appended h.flushed)
+    request_taken settings requests old new mid (record { frame = head ++ body; document = command; sent = sent }) (inr is_query) consumed unwritten lasts still on h.appended (sent_flushed mid new.state sent h.appended h.flushed)
     (record { reply = reply; answered = answered; sent = inr (is_query, is_hello, (ap (λ t. query_reply id t (document_of_served reply)) to_front, h.drawn)) })
     remembers cost
-query_part settings requests old mid new first last before id after later head body command is_query sixteen consumed unwritten lasts on reply answered cost is_hello remembers to to_is (Err fault) still h front cause =
+query_part settings requests old new mid head body command is_query sixteen consumed unwritten lasts on reply answered cost is_hello remembers to to_is (Err fault) still h front cause =
+    let id = old.basis.id in
     let n = part_of fault front.0 in
     let bytes = query_reply id to (document_of_served reply) in
-    let sent = appends_part (IsLongReply (document_of_served reply)) fault front.0 bytes mid new front.1 cause in
+    let sent = appends_part (IsLongReply (document_of_served reply)) fault front.0 bytes mid new.state front.1 cause in
     let to_front : to ≡ signed_at 4 (take 16 (head ++ body)) = to_is ∙ ap (signed_at 4) (sym (take_at head body 16 sixteen)) in
-    request_cut (IsLongReply (document_of_served reply)) settings requests old mid new first last before id after.user fault (record { frame = head ++ body; document = command; sent = take n bytes })
+    request_cut (IsLongReply (document_of_served reply)) settings requests old new mid fault (record { frame = head ++ body; document = command; sent = take n bytes })
     (record {
       is_taken = inr is_query;
-      after = after;
+      after = new.basis.session;
       reply = reply;
       answered = answered;
       user_is = refl;
       sent = inr (is_query, is_hello, (n, ap (λ t. take n (query_reply id t (document_of_served reply))) to_front));
-      too_long = λ is. (inr (is_query, long_cause (IsLongReply (document_of_served reply)) fault mid new cause is), unsent fault front.0 bytes is);
+      too_long = λ is. (inr (is_query, long_cause (IsLongReply (document_of_served reply)) fault mid new.state cause is), unsent fault front.0 bytes is);
     })
     consumed unwritten lasts on sent cause remembers.user cost
 
@@ -133,8 +138,8 @@ front_taken head None = tt
 front_taken head (Some bytes) = refl
 
 -- more was taken after a header, and nothing answered
-pub none_after : (settings : ServeSettings) (requests : List (List ℕ)) (before now new : State) (first last : ℕ) (session : Session) (id : ℤ) (user : Option (List ℕ)) (fault : ServeFault) (head more : List ℕ) → user ≡ session.user → IsPart (head ++ more)
-    → FollowsHead before now head → Consumes now.left new.left more → new.written ≡ now.written → IfSome session.user (λ name. HasLoggedIn settings name requests) → CountsFault fault before new → HasCause fault before new [] (head ++ more) → before.flushed ≤ new.flushed
-    → SpendsRounds settings [] (Some fault) (head ++ more) first last → IsCut settings requests before new first last session id user fault
-none_after settings requests before now new first last session id user fault head more same part f consumed unwritten logged_in counted cause stays spent =
-    none_taken settings requests before new first last session id user fault (head ++ more) same part (Consumes-trans before.left now.left new.left head more f.taken consumed) (unwritten ∙ f.on.unwritten.written) logged_in counted cause stays spent
+pub none_after : (settings : ServeSettings) (requests : List (List ℕ)) (old new : Juncture) (mid : State) (fault : ServeFault) (head more : List ℕ) → user_at new ≡ user_at old → IsPart (head ++ more)
+    → FollowsHead old.state mid head → Consumes mid.left new.state.left more → new.state.written ≡ mid.written → IfSome (user_at old) (λ name. HasLoggedIn settings name requests) → CountsFault fault old.state new.state
+    → HasCause fault old.state new.state [] (head ++ more) → old.state.flushed ≤ new.state.flushed → SpendsRounds settings [] (Some fault) (head ++ more) old.steps new.steps → IsCut settings requests old new fault
+none_after settings requests old new mid fault head more same part f consumed unwritten logged_in counted cause stays spent =
+    none_taken settings requests old new fault (head ++ more) same part (Consumes-trans old.state.left mid.left new.state.left head more f.taken consumed) (unwritten ∙ f.on.unwritten.written) logged_in counted cause stays spent

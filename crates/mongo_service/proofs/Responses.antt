@@ -23,7 +23,7 @@ use Rattle.std.proofs.lemmas.Int.{ints}
 use Rattle.mongo_service.specs.Faults.{fault_of_kind, IsOfWriting}
 use Rattle.mongo_server.specs.Announced.{maximum_message_length}
 use Rattle.mongo_session.specs.Replies.{document_of_served}
-use Rattle.mongo_service.specs.Sent.{IsLongMessage, message_reply, query_fields, query_header, query_reply, IsReplyFrame, IsReplySent, IsSentInPart, IsSentToQuery, SendsReply, WantsNone, WriteCause}
+use Rattle.mongo_service.specs.Sent.{IsLongMessage, message_reply, query_fields, query_header, query_reply, IsReplyFrame, IsReplySent, IsSentInPart, IsSentToQuery, Outbox, SendsReply, WantsNone, WriteCause}
 use Rattle.mongo_service.proofs.Lasts.{sent_flushed}
 
 pub message_framed : (document : List ℕ) (sequences : List DocumentSequence) (id to : ℤ) (flags : MessageFlags) (frame : List ℕ) → sequences ≡ [] → flags.0 ≡ 0
@@ -95,20 +95,20 @@ refused_cause too_long kind maximum m old new before after long h = absurd h
 
 -- ---- an OP_MSG was answered
 
-pub reply_sent : (old new : State) (to : ℤ) (flags : ℕ) (reply : Reply) (id later : ℤ) (document : List ℕ) (r : Result ⊤ ServeFault) → document ≡ document_of_served reply → (WantsNone flags → ⊥) → OnOk r (SendsReply old new id later to document)
-    → OnOk r (IsReplySent old new to flags reply id later)
-reply_sent old new to flags reply id later document (Err fault) is wanted h = tt
-reply_sent old new to flags reply id later document (Ok done) is wanted h = record {
+pub reply_sent : (old new : Outbox) (to : ℤ) (flags : ℕ) (reply : Reply) (document : List ℕ) (r : Result ⊤ ServeFault) → document ≡ document_of_served reply → (WantsNone flags → ⊥) → OnOk r (SendsReply old new to document)
+    → OnOk r (IsReplySent old new to flags reply)
+reply_sent old new to flags reply document (Err fault) is wanted h = tt
+reply_sent old new to flags reply document (Ok done) is wanted h = record {
   sent = h.sent;
-  is_answer = inr (wanted, subst (λ d. IsReplyFrame h.sent id to d) is h.is_reply, h.drawn);
+  is_answer = inr (wanted, subst (λ d. IsReplyFrame h.sent old.id to d) is h.is_reply, h.drawn);
   appended = h.appended;
-  flushed = sent_flushed old new h.sent h.appended h.flushed;
+  flushed = sent_flushed old.state new.state h.sent h.appended h.flushed;
 }
 
-pub reply_cut : (old new : State) (to : ℤ) (flags : ℕ) (reply : Reply) (id : ℤ) (document : List ℕ) (r : Result ⊤ ServeFault) → document ≡ document_of_served reply → (WantsNone flags → ⊥)
-    → OnErr r (AppendsFront old.written new.written (message_reply id to document)) → OnErr r (IsSentInPart old new to flags reply id)
-reply_cut old new to flags reply id document (Ok done) is wanted h = tt
-reply_cut old new to flags reply id document (Err fault) is wanted h = record { wanted = wanted; front = subst (λ d. AppendsFront old.written new.written (message_reply id to d)) is h }
+pub reply_cut : (old new : Outbox) (to : ℤ) (flags : ℕ) (reply : Reply) (document : List ℕ) (r : Result ⊤ ServeFault) → document ≡ document_of_served reply → (WantsNone flags → ⊥)
+    → OnErr r (AppendsFront old.state.written new.state.written (message_reply old.id to document)) → OnErr r (IsSentInPart old new to flags reply)
+reply_cut old new to flags reply document (Ok done) is wanted h = tt
+reply_cut old new to flags reply document (Err fault) is wanted h = record { wanted = wanted; front = subst (λ d. AppendsFront old.state.written new.state.written (message_reply old.id to d)) is h }
 
 -- ---- an OP_QUERY was answered
 
@@ -121,11 +121,11 @@ query_framed header id to document same = ap (λ h. header_bytes h ++ (query_fie
 pub query_numbered : (frame document : List ℕ) (i id t to : ℤ) → frame ≡ query_reply i t document → i ≡ id → t ≡ to → frame ≡ query_reply id to document
 query_numbered frame document i id t to is same other = is ∙ ap (λ n. query_reply n t document) same ∙ ap (λ n. query_reply id n document) other
 
-pub query_sent : (old new : State) (to id later : ℤ) (reply : Reply) (document frame bytes : List ℕ) (r : Result ⊤ ServeFault) → document ≡ document_of_served reply → frame ≡ query_reply id to document → bytes ≡ frame → later ≡ next_id id
-    → OnOk r (Appends old.written new.written bytes) → OnOk r (IsFlushed new) → OnOk r (IsSentToQuery old new to reply id later)
-query_sent old new to id later reply document frame bytes (Err fault) p q s drawn a f = tt
-query_sent old new to id later reply document frame bytes (Ok done) p q s drawn a f =
-    record { appended = subst (Appends old.written new.written) (s ∙ q ∙ ap (query_reply id to) p) a; flushed = f; drawn = drawn }
+pub query_sent : (old new : Outbox) (to : ℤ) (reply : Reply) (document frame bytes : List ℕ) (r : Result ⊤ ServeFault) → document ≡ document_of_served reply → frame ≡ query_reply old.id to document → bytes ≡ frame → new.id ≡ next_id old.id
+    → OnOk r (Appends old.state.written new.state.written bytes) → OnOk r (IsFlushed new.state) → OnOk r (IsSentToQuery old new to reply)
+query_sent old new to reply document frame bytes (Err fault) p q s drawn a f = tt
+query_sent old new to reply document frame bytes (Ok done) p q s drawn a f =
+    record { appended = subst (Appends old.state.written new.state.written) (s ∙ q ∙ ap (query_reply old.id to) p) a; flushed = f; drawn = drawn }
 
 pub query_front : (old new : State) (to id : ℤ) (reply : Reply) (document frame bytes : List ℕ) (r : Result ⊤ ServeFault) → document ≡ document_of_served reply → frame ≡ query_reply id to document → bytes ≡ frame
     → OnErr r (AppendsFront old.written new.written bytes) → OnErr r (AppendsFront old.written new.written (query_reply id to (document_of_served reply)))

@@ -16,6 +16,7 @@ use Rattle.mongo_session.specs.Login.{HasLoggedIn}
 use Rattle.mongo_server.specs.Announced.{maximum_message_length}
 use Rattle.mongo_session.specs.Replies.{document_of_served}
 use Rattle.mongo_session.specs.Requests.{IsHello}
+use Rattle.mongo_service.specs.Juncture.{Basis, Juncture, user_at}
 use Rattle.mongo_service.specs.Sent.{CutsMessage, CutsQuery, IsLongMessage, IsLongReply}
 use Rattle.mongo_service.specs.Spent.{SpendsRounds}
 use Rattle.mongo_service.specs.Taken.{CarriesRequest, IsMessage, IsQuery}
@@ -35,13 +36,13 @@ IsLong request reply =
 
 -- the request was answered by the session, which has this user then, and the reply sent in part, for this fault; of one that is too long
 -- nothing is sent
-pub record IsCutRequest (settings : ServeSettings) (before : Session) (id : ℤ) (user : Option (List ℕ)) (fault : Option ServeFault) (request : ServedRequest) : Type 0 where
+pub record IsCutRequest (settings : ServeSettings) (before : Basis) (user : Option (List ℕ)) (fault : Option ServeFault) (request : ServedRequest) : Type 0 where
   pub is_taken : IsRequestTaken request
   pub after : Session
   pub reply : Reply
-  pub answered : IsDocumentAnswered settings before request.document after reply
+  pub answered : IsDocumentAnswered settings before.session request.document after reply
   pub user_is : user ≡ after.user
-  pub sent : CutsIn request reply id
+  pub sent : CutsIn request reply before.id
   pub too_long : fault ≡ Some ReplyTooLong → IsLong request reply × (request.sent ≡ [])
 
 -- ---- bytes that were taken and not answered
@@ -107,17 +108,17 @@ HasCause OutOfMemory old new cut more = (cut ≡ []) ⊎ (more ≡ [])
 
 -- A request was cut: a frame was taken and its answer cut, or some bytes were taken and nothing answered. Who is logged in has sent what a
 -- login takes.
-pub record IsCut (settings : ServeSettings) (requests : List (List ℕ)) (old new : State) (first last : ℕ) (before : Session) (id : ℤ) (user : Option (List ℕ)) (fault : ServeFault) : Type 0 where
+pub record IsCut (settings : ServeSettings) (requests : List (List ℕ)) (old new : Juncture) (fault : ServeFault) : Type 0 where
   pub served_requests : List ServedRequest
   pub one : length served_requests ≤ 1
-  pub each : AllByRecursion (IsCutRequest settings before id user (Some fault)) served_requests
-  pub none : served_requests ≡ [] → user ≡ before.user
+  pub each : AllByRecursion (IsCutRequest settings old.basis (user_at new) (Some fault)) served_requests
+  pub none : served_requests ≡ [] → user_at new ≡ user_at old
   pub more : List ℕ
   pub part : IsPart more
-  pub consumed : Consumes old.left new.left (joined_frames served_requests ++ more)
-  pub appended : Appends old.written new.written (sent_for served_requests)
-  pub logged_in : IfSome user (λ name. HasLoggedIn settings name (requests ++ documents served_requests))
-  pub stays : old.flushed ≤ new.flushed
-  pub spent : SpendsRounds settings (documents served_requests) (Some fault) more first last
-  pub counted : CountsFault fault old new
-  pub cause : HasCause fault old new served_requests more
+  pub consumed : Consumes old.state.left new.state.left (joined_frames served_requests ++ more)
+  pub appended : Appends old.state.written new.state.written (sent_for served_requests)
+  pub logged_in : IfSome (user_at new) (λ name. HasLoggedIn settings name (requests ++ documents served_requests))
+  pub stays : old.state.flushed ≤ new.state.flushed
+  pub spent : SpendsRounds settings (documents served_requests) (Some fault) more old.steps new.steps
+  pub counted : CountsFault fault old.state new.state
+  pub cause : HasCause fault old.state new.state served_requests more

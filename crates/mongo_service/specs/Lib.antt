@@ -1,5 +1,6 @@
 pub mod Cut
 pub mod Faults
+pub mod Juncture
 pub mod Line
 pub mod Report
 pub mod Run

@@ -76,35 +76,43 @@ CutsQuery frame reply id sent = IsFrontOf sent (query_reply id (signed_at 4 (tak
 
 -- ---- a write
 
+-- where replies go out: the sink, and the id of the next
+pub record Outbox : Type 0 where
+  pub state : State
+  pub id : ℤ
+
+abbrev pub outbox : State → ℤ → Outbox
+outbox state id = record { state = state; id = id }
+
 -- what was sent is flushed, where anything was
 abbrev pub HasFlushed : State → State → List ℕ → Type 0
 HasFlushed old new sent = (sent ≡ []) ⊎ IfSome old.written (λ before. length before + length sent ≤ new.flushed)
 
--- a document was sent as a reply of this id, and flushed
-pub record SendsReply (old new : State) (id later to : ℤ) (document : List ℕ) : Type 0 where
+-- a document was sent as a reply to the request of this id, and flushed
+pub record SendsReply (old new : Outbox) (to : ℤ) (document : List ℕ) : Type 0 where
   pub sent : List ℕ
-  pub is_reply : IsReplyFrame sent id to document
-  pub appended : Appends old.written new.written sent
-  pub flushed : IsFlushed new
-  pub drawn : later ≡ next_id id
+  pub is_reply : IsReplyFrame sent old.id to document
+  pub appended : Appends old.state.written new.state.written sent
+  pub flushed : IsFlushed new.state
+  pub drawn : new.id ≡ next_id old.id
 
 -- an OP_MSG was answered, and the reply flushed
-pub record IsReplySent (old new : State) (to : ℤ) (flags : ℕ) (reply : Reply) (id later : ℤ) : Type 0 where
+pub record IsReplySent (old new : Outbox) (to : ℤ) (flags : ℕ) (reply : Reply) : Type 0 where
   pub sent : List ℕ
-  pub is_answer : IsAnswerTo to flags reply id later sent
-  pub appended : Appends old.written new.written sent
-  pub flushed : HasFlushed old new sent
+  pub is_answer : IsAnswerTo to flags reply old.id new.id sent
+  pub appended : Appends old.state.written new.state.written sent
+  pub flushed : HasFlushed old.state new.state sent
 
 -- an answer to an OP_MSG was cut: a front of it is written, if any
-pub record IsSentInPart (old new : State) (to : ℤ) (flags : ℕ) (reply : Reply) (id : ℤ) : Type 0 where
+pub record IsSentInPart (old new : Outbox) (to : ℤ) (flags : ℕ) (reply : Reply) : Type 0 where
   pub wanted : WantsNone flags → ⊥
-  pub front : AppendsFront old.written new.written (message_reply id to (document_of_served reply))
+  pub front : AppendsFront old.state.written new.state.written (message_reply old.id to (document_of_served reply))
 
 -- an OP_QUERY was answered, and the reply flushed
-pub record IsSentToQuery (old new : State) (to : ℤ) (reply : Reply) (id later : ℤ) : Type 0 where
-  pub appended : Appends old.written new.written (query_reply id to (document_of_served reply))
-  pub flushed : IsFlushed new
-  pub drawn : later ≡ next_id id
+pub record IsSentToQuery (old new : Outbox) (to : ℤ) (reply : Reply) : Type 0 where
+  pub appended : Appends old.state.written new.state.written (query_reply old.id to (document_of_served reply))
+  pub flushed : IsFlushed new.state
+  pub drawn : new.id ≡ next_id old.id
 
 -- ---- why a write was refused
 

@@ -1,10 +1,10 @@
 -- Served requests: a frame is taken, and answered.
 use Rattle.std.specs.Prelude.{◌≡◌, ℕ, ℤ, ◌⊎◌, List, [], ◌∷◌, map, flat_map}
 use Rattle.mongo_session.specs.declared.reply.Reply.{Reply}
-use Rattle.mongo_session.specs.declared.session.Session.{Session}
 use Rattle.mongo_session.specs.declared.serve_settings.ServeSettings.{ServeSettings}
 use Rattle.mongo_session.specs.Answers.{IsDocumentAnswered}
 use Rattle.mongo_session.specs.Requests.{IsHello}
+use Rattle.mongo_service.specs.Juncture.{Basis}
 use Rattle.mongo_service.specs.Sent.{AnswersMessage, AnswersQuery}
 use Rattle.mongo_service.specs.Taken.{CarriesRequest, IsQuery}
 
@@ -38,13 +38,13 @@ AnswersIn request reply id later =
     AnswersMessage request.frame request.document reply id later request.sent ⊎ (IsQuery request.frame request.document × IsHello request.document × AnswersQuery request.frame reply id later request.sent)
 
 -- the request was answered by the session, and the reply sent
-pub record IsServedRequest (settings : ServeSettings) (before : Session) (id : ℤ) (request : ServedRequest) (after : Session) (later : ℤ) : Type 0 where
+pub record IsServedRequest (settings : ServeSettings) (before : Basis) (request : ServedRequest) (after : Basis) : Type 0 where
   pub reply : Reply
-  pub answered : IsDocumentAnswered settings before request.document after reply
-  pub sent : AnswersIn request reply id later
+  pub answered : IsDocumentAnswered settings before.session request.document after.session reply
+  pub sent : AnswersIn request reply before.id after.id
 
 -- Each request begins with the session that the one before it left, and the ids of the replies are counted on.
-abbrev pub AreServedRequests : ServeSettings → Session → ℤ → List ServedRequest → Session → ℤ → Type 0
-AreServedRequests settings before id [] after later = (after ≡ before) × (later ≡ id)
-AreServedRequests settings before id (request ∷ served_requests) after later =
-    (between : Session) × (next : ℤ) × IsServedRequest settings before id request between next × AreServedRequests settings between next served_requests after later
+abbrev pub AreServedRequests : ServeSettings → Basis → List ServedRequest → Basis → Type 0
+AreServedRequests settings before [] after = after ≡ before
+AreServedRequests settings before (request ∷ served_requests) after =
+    (between : Basis) × IsServedRequest settings before request between × AreServedRequests settings between served_requests after

@@ -5,7 +5,7 @@ ghost use Rattle.std.specs.Io.KnownBytes.{Appends};
 ghost use Rattle.mongo_bson.specs.Framed.{maximum_length};
 ghost use Rattle.mongo_wire.specs.Outside.{AppendsFront, IsFlushed, WritesOn};
 ghost use Rattle.mongo_session.specs.Replies.{document_of_served};
-ghost use Rattle.mongo_service.specs.Sent.{message_reply, query_header, query_reply, IsLongMessage, IsLongReply, IsReplySent, IsSentInPart, IsSentToQuery, SendsReply, WriteCause};
+ghost use Rattle.mongo_service.specs.Sent.{message_reply, outbox, query_header, query_reply, IsLongMessage, IsLongReply, IsReplySent, IsSentInPart, IsSentToQuery, SendsReply, WriteCause};
 ghost use Rattle.mongo_service.specs.declared.fault.ServeFault.TheVariants.{OutOfMemory};
 
 use crate::fault::{ServeFault, fault_of_document, fault_of_write};
@@ -26,8 +26,8 @@ pub fn respond<K: Sink>(
     reply: &Reply,
     ids: &mut RequestIds,
 ) -> Result<(), ServeFault>
-    ensures sent { OnOk result (IsReplySent (K.state sink.old) (K.state sink.new) request_id flags.0 reply.now ids.old ids.new) }
-    ensures cut { OnErr result (IsSentInPart (K.state sink.old) (K.state sink.new) request_id flags.0 reply.now ids.old) }
+    ensures sent { OnOk result (IsReplySent (outbox (K.state sink.old) ids.old) (outbox (K.state sink.new) ids.new) request_id flags.0 reply.now) }
+    ensures cut { OnErr result (IsSentInPart (outbox (K.state sink.old) ids.old) (outbox (K.state sink.new) ids.new) request_id flags.0 reply.now) }
     ensures writes { OnOk result ((K.state sink.new).write_faults ≡ (K.state sink.old).write_faults) }
     ensures on { WritesOn (K.state sink.old) (K.state sink.new) }
     ensures refused { IfErr result (λ fault. WriteCause (IsLongMessage (document_of_served reply.now)) fault (K.state sink.old) (K.state sink.new)) }
@@ -49,7 +49,7 @@ fn send_document<K: Sink>(
     document: RawDocumentBuf,
     ids: &mut RequestIds,
 ) -> Result<(), ServeFault>
-    ensures sent { OnOk result (SendsReply (K.state sink.old) (K.state sink.new) ids.old ids.new request_id document) }
+    ensures sent { OnOk result (SendsReply (outbox (K.state sink.old) ids.old) (outbox (K.state sink.new) ids.new) request_id document) }
     ensures front { OnErr result (AppendsFront (K.state sink.old).written (K.state sink.new).written (message_reply ids.old request_id document)) }
     ensures writes { OnOk result ((K.state sink.new).write_faults ≡ (K.state sink.old).write_faults) }
     ensures on { WritesOn (K.state sink.old) (K.state sink.new) }
@@ -84,7 +84,7 @@ pub fn respond_to_query<K: Sink>(
     reply: &Reply,
     ids: &mut RequestIds,
 ) -> Result<(), ServeFault>
-    ensures sent { OnOk result (IsSentToQuery (K.state sink.old) (K.state sink.new) request_id reply.now ids.old ids.new) }
+    ensures sent { OnOk result (IsSentToQuery (outbox (K.state sink.old) ids.old) (outbox (K.state sink.new) ids.new) request_id reply.now) }
     ensures front { OnErr result (AppendsFront (K.state sink.old).written (K.state sink.new).written (query_reply ids.old request_id (document_of_served reply.now))) }
     ensures writes { OnOk result ((K.state sink.new).write_faults ≡ (K.state sink.old).write_faults) }
     ensures on { WritesOn (K.state sink.old) (K.state sink.new) }

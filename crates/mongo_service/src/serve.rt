@@ -8,6 +8,7 @@ ghost use Rattle.mongo_session.specs.Costs.{DocumentRounds, CostsAtMost, CostsRo
 ghost use Rattle.mongo_session.specs.Login.{Remembers};
 ghost use Rattle.mongo_server.specs.Announced.{maximum_message_length};
 ghost use Rattle.mongo_session.specs.Requests.{IsHello};
+ghost use Rattle.mongo_service.specs.Juncture.{basis_of, juncture};
 ghost use Rattle.mongo_service.specs.Served.{FollowsHead, RequestEnds, PartEnds, IsServed};
 ghost use Rattle.mongo_service.specs.declared.fault.ServeFault.TheVariants.{NoHello, OutOfMemory};
 ghost use Rattle.mongo_wire.specs.declared.op_code.OpCode.TheVariants.{Message, Query};
@@ -89,7 +90,7 @@ fn serve_request<L: Link, G: Ledger>(
     steps: &mut Steps<G>,
 ) -> Result<bool, ServeFault>
     ensures request { (requests : List (List ℕ)) → Remembers settings.now requests serving.old.session →
-        RequestEnds settings.now requests (L.state link.old) (L.state link.new) steps.old steps.new serving.old.session serving.old.ids serving.new.session serving.new.ids result }
+        RequestEnds settings.now requests (juncture (L.state link.old) steps.old (basis_of serving.old)) (juncture (L.state link.new) steps.new (basis_of serving.new)) result }
 {
     let mut head = [0u8; Header::LENGTH];
     match fill_or_end(link, &mut head) {
@@ -112,7 +113,7 @@ fn take_request<L: Link, G: Ledger>(
     steps: &mut Steps<G>,
 ) -> Result<(), ServeFault>
     ensures request { (requests : List (List ℕ)) (before : State) → Remembers settings.now requests serving.old.session → FollowsHead before (L.state link.old) head.now →
-        PartEnds settings.now requests before (L.state link.new) steps.old steps.new serving.old.session serving.old.ids serving.new.session serving.new.ids result }
+        PartEnds settings.now requests (juncture before steps.old (basis_of serving.old)) (juncture (L.state link.new) steps.new (basis_of serving.new)) result }
 {
     match Header::decode(head) {
         Ok(header) => match header.op_code {
@@ -135,7 +136,7 @@ fn take_message<L: Link, G: Ledger>(
 ) -> Result<(), ServeFault>
     requires { header.op_code ≡ Message }
     ensures request { (requests : List (List ℕ)) (before : State) → Remembers settings.now requests serving.old.session → FollowsHead before (L.state link.old) (header_bytes header) →
-        PartEnds settings.now requests before (L.state link.new) steps.old steps.new serving.old.session serving.old.ids serving.new.session serving.new.ids result }
+        PartEnds settings.now requests (juncture before steps.old (basis_of serving.old)) (juncture (L.state link.new) steps.new (basis_of serving.new)) result }
 {
     let maximum = Some(MAXIMUM_MESSAGE_LENGTH);
     match serving.buffer.take_after(link, header, maximum) {
@@ -187,7 +188,7 @@ fn take_query<L: Link, G: Ledger>(
 ) -> Result<(), ServeFault>
     requires { header.op_code ≡ Query }
     ensures request { (requests : List (List ℕ)) (before : State) → Remembers settings.now requests serving.old.session → FollowsHead before (L.state link.old) (header_bytes header) →
-        PartEnds settings.now requests before (L.state link.new) steps.old steps.new serving.old.session serving.old.ids serving.new.session serving.new.ids result }
+        PartEnds settings.now requests (juncture before steps.old (basis_of serving.old)) (juncture (L.state link.new) steps.new (basis_of serving.new)) result }
 {
     let Some(rest) = length_after(header.length) else {
         return Err(ServeFault::NoFrame);

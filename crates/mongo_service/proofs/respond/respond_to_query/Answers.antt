@@ -2,7 +2,7 @@ use Rattle.std.proofs.Common.{rules, ◌≡◌, FitsSigned, ◌∙◌, subst, sy
 use Rattle.std.specs.Int.{w32}
 use Rattle.std.proofs.lemmas.Int.{ints, to_z-of_z}
 use mir.Val.{to_z, of_z}
-use Rattle.mongo_service.specs.Sent.{IsLongReply, query_reply, WriteCause}
+use Rattle.mongo_service.specs.Sent.{IsLongReply, outbox, query_reply, WriteCause}
 use Rattle.mongo_session.specs.Replies.{document_of_served}
 use Rattle.mongo_service.proofs.Causes.{document_cause, is_of_building}
 use Rattle.mongo_service.proofs.Responses.{query_front, query_numbered, query_sent}
@@ -20,7 +20,7 @@ returns-clause-sent g c =
     let to_fits : FitsSigned w32 to = search rules in
     let frame : c.in-Ok-frame_of_reply.frame.items ≡ query_reply id to document =
     query_numbered c.in-Ok-frame_of_reply.frame.items document (to_z w32 (of_z w32 drawn)) id (to_z w32 (of_z w32 to)) to c.in-Ok-frame_of_reply.ensures.frame (to_z-of_z w32 drawn drawn_fits ∙ c.draw.ensures.drawn) (to_z-of_z w32 to to_fits) in
-    query_sent old new to id c.draw.new.self c.args.reply.now document c.in-Ok-frame_of_reply.frame.items c.as_slice.result.now c.send_bytes.result (c.as_bytes-2.ensures.bytes ∙ c.in-Ok.ensures.document) frame c.as_slice.ensures.value
+    query_sent (outbox old id) (outbox new c.draw.new.self) to c.args.reply.now document c.in-Ok-frame_of_reply.frame.items c.as_slice.result.now c.send_bytes.result (c.as_bytes-2.ensures.bytes ∙ c.in-Ok.ensures.document) frame c.as_slice.ensures.value
     c.draw.ensures.next c.send_bytes.ensures.written c.send_bytes.ensures.flushed
 
 pub returns-clause-front : goal.returns-clause-front
