@@ -18,8 +18,8 @@ fn generated<G: Ledger>(blank: Blank, alloc: Global, count: u32) -> Result<Gener
     generate(alloc, count, &mut steps)
 }
 
-// How many logins, the rounds of Hi, 4096 for each of the 210 keys, and the digest, by Python's hashlib and hmac.
-const LOGINS: [(u32, u64, [u8; 32]); 4] = [
+// How many logins, the rounds of Hi, 4096 for each of their keys, and the digest, by Python's hashlib and hmac.
+const LOGINS: [(u32, u64, [u8; 32]); 3] = [
     (
         0,
         0,
@@ -34,11 +34,6 @@ const LOGINS: [(u32, u64, [u8; 32]); 4] = [
         7,
         28672,
         *b"\x6f\x72\x3b\xf6\x1f\xef\xd5\x8b\xeb\xac\xe9\x01\xd8\x45\x4f\x19\x16\x03\x79\x00\x39\xc8\x7d\x17\x71\x6c\x18\xcb\xf5\x8d\x2f\x4c",
-    ),
-    (
-        300,
-        860160,
-        *b"\x5b\x4d\xf6\xdd\xee\xb5\x90\x02\x0f\xd9\x24\x36\xba\xe1\xf1\x12\xe6\xc0\xb3\xf0\x61\xec\xb4\xb0\xed\x9b\xb3\xe9\xd9\x57\xb3\x91",
     ),
 ];
 
