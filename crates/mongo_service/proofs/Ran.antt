@@ -9,14 +9,14 @@ use Rattle.mongo_service.specs.declared.fault.ServeFault.TheVariants.{OutOfMemor
 use Rattle.mongo_service.specs.declared.status.ServeStatus.{ServeStatus}
 use Rattle.mongo_service.specs.declared.status.ServeStatus.TheVariants.{Broken, BadSettings, Usage}
 use Rattle.mongo_service.specs.Report.{report_text, line_failed, no_settings}
-use Rattle.mongo_service.specs.Run.{ServeRun, status_of_fault, FailsWithin, HasBadLine, IsReportedWhole, IsUnreported, Ran, ServingEnds, ServeRunEnds}
+use Rattle.mongo_service.specs.Run.{ServeRun, status_of_fault, FailsWithin, HasBadLine, IsReportedWhole, IsReportLost, Ran, ServingEnds, ServeRunEnds}
 
 by_fault : (run : ServeRun) (fault : Option ServeFault) → Ran run (status_of_fault fault) → ServingEnds run (status_of_fault fault)
 by_fault run None h = h
 by_fault run (Some OutOfMemory) h = inl h
 by_fault run (Some cause) h = inl h
 
-ran_by : (run : ServeRun) (status : ServeStatus) (h : Ran run status) → ((status ≡ status_of_fault h.served.fault) × IsReportedWhole run.report_old run.report_new (report_text h.served)) ⊎ IsUnreported run.report_old run.report_new status → ServingEnds run status
+ran_by : (run : ServeRun) (status : ServeStatus) (h : Ran run status) → ((status ≡ status_of_fault h.served.fault) × IsReportedWhole run.report_old run.report_new (report_text h.served)) ⊎ IsReportLost run.report_old run.report_new status → ServingEnds run status
 ran_by run status h (inl (is, said)) = subst (ServingEnds run) (sym is) (by_fault run h.served.fault (subst (Ran run) is h))
 ran_by run status h (inr (is, unfailed)) = subst (ServingEnds run) (sym is) (inl (subst (Ran run) is h))
 
@@ -25,14 +25,14 @@ ran_ends run status h = ran_by run status h h.told.whole
 
 -- ---- there are no settings
 
-bad_line_by : (run : ServeRun) (status : ServeStatus) → HasBadLine run status → ((status ≡ BadSettings) × IsReportedWhole run.report_old run.report_new no_settings) ⊎ IsUnreported run.report_old run.report_new status → ServingEnds run status
+bad_line_by : (run : ServeRun) (status : ServeStatus) → HasBadLine run status → ((status ≡ BadSettings) × IsReportedWhole run.report_old run.report_new no_settings) ⊎ IsReportLost run.report_old run.report_new status → ServingEnds run status
 bad_line_by run status h (inl (is, said)) = subst (ServingEnds run) (sym is) (subst (HasBadLine run) is h)
 bad_line_by run status h (inr (is, unfailed)) = subst (ServingEnds run) (sym is) (inr (inr (inr (subst (HasBadLine run) is h))))
 
 pub bad_line_ends : (run : ServeRun) (status : ServeStatus) → HasBadLine run status → ServingEnds run status
 bad_line_ends run status h = bad_line_by run status h h.2.whole
 
-failed_by : (run : ServeRun) (status : ServeStatus) → FailsWithin run status → ((status ≡ Broken) × IsReportedWhole run.report_old run.report_new line_failed) ⊎ IsUnreported run.report_old run.report_new status → ServingEnds run status
+failed_by : (run : ServeRun) (status : ServeStatus) → FailsWithin run status → ((status ≡ Broken) × IsReportedWhole run.report_old run.report_new line_failed) ⊎ IsReportLost run.report_old run.report_new status → ServingEnds run status
 failed_by run status h (inl (is, said)) = subst (ServingEnds run) (sym is) (inr (subst (FailsWithin run) is h))
 failed_by run status h (inr (is, unfailed)) = subst (ServingEnds run) (sym is) (inr (inr (inl (subst (FailsWithin run) is h))))
 

@@ -40,14 +40,14 @@ abbrev pub IsReportedWhole : State → State → List ℕ → Type 0
 IsReportedWhole old new text = (Appends old.written new.written text × IsFlushed new × NoWriteFailed old new) ⊎ Rose old.write_faults new.write_faults
 
 -- it doesn't, since memory ran out
-abbrev pub IsUnreported : State → State → ServeStatus → Type 0
-IsUnreported old new status = (status ≡ NoMemory) × NoWriteFailed old new
+abbrev pub IsReportLost : State → State → ServeStatus → Type 0
+IsReportLost old new status = (status ≡ NoMemory) × NoWriteFailed old new
 
 -- A run that says this text of itself ends with the status that it is to end with, or with NoMemory where memory ran out for the text. A
 -- front of the text is written.
 pub record EndsReporting (old new : State) (text : List ℕ) (wanted status : ServeStatus) : Type 0 where
   pub front : AppendsFront old.written new.written text
-  pub whole : ((status ≡ wanted) × IsReportedWhole old new text) ⊎ IsUnreported old new status
+  pub whole : ((status ≡ wanted) × IsReportedWhole old new text) ⊎ IsReportLost old new status
 
 abbrev pub WritesReport : ServeRun → List ℕ → ServeStatus → ServeStatus → Type 0
 WritesReport run text wanted status = EndsReporting run.report_old run.report_new text wanted status
