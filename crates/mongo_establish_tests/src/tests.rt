@@ -2,7 +2,9 @@ ghost use Rattle.std.specs.Prelude.{◌≡◌, ◌<◌, Some, option_copied, IfO
 ghost use Rattle.mongo_establish.specs.Speculation.{SpeaksFor};
 
 mod causes;
+mod copied;
 mod cut_replies;
+mod ends;
 mod failing;
 mod frames;
 mod generations;
@@ -11,6 +13,7 @@ mod kept_faults;
 mod long_replies;
 mod monitoring;
 mod replies;
+mod unsent;
 
 use causes::cause_of;
 use mongo_establish::{
@@ -27,10 +30,12 @@ use std::marker::Brand;
 use std::sync::ledger::{Blank, Ledger};
 use std::test::Fail;
 
-/// Who logs in: nobody, or `user`, whose password is `pencil`, by the mechanism that is negotiated or by one of one command.
+/// Who logs in: nobody, or `user`, whose password is `pencil`, by the mechanism that is negotiated or by one of one command; or one
+/// with that password and no name.
 #[derive(Clone, Copy)]
 enum Who {
     Nobody,
+    Nameless,
     Negotiated,
     Plain,
     X509,
@@ -193,8 +198,12 @@ fn user(alloc: Global, who: Who) -> Result<Credential, Fail>
         Who::X509 | Who::X509WithPassword => Some(AuthMechanism::MongoDbX509),
         _ => None,
     };
+    let username = match who {
+        Who::Nameless => None,
+        _ => text(alloc, "user")?,
+    };
     let password = password(alloc, who)?;
-    let made = Credential::new().username(text(alloc, "user")?);
+    let made = Credential::new().username(username);
     Ok(made.password(password).mechanism(mechanism))
 }
 
@@ -370,36 +379,4 @@ fn is_standalone(description: &StreamDescription) -> bool {
         && description.max_message_size_bytes == 48_000_000
         && description.max_wire_version == None
         && !description.hello_ok
-}
-
-/// How an establishment ended, and what it left: the next command's id, how many bytes were said and heard, and the
-/// cache's rounds and entries.
-#[derive(Clone, Copy)]
-struct End {
-    told: Told,
-    next_id: i32,
-    said: usize,
-    heard: usize,
-    rounds: u64,
-    entries: usize,
-}
-
-fn end_of(told: Told, state: &LoginState, said: usize, heard: usize) -> End {
-    End {
-        told,
-        next_id: state.ids.next(),
-        said,
-        heard,
-        rounds: state.salted.rounds(),
-        entries: state.salted.len(),
-    }
-}
-
-fn is_same_end(end: &End, wanted: &End) -> bool {
-    end.told == wanted.told
-        && end.next_id == wanted.next_id
-        && end.said == wanted.said
-        && end.heard == wanted.heard
-        && end.rounds == wanted.rounds
-        && end.entries == wanted.entries
 }

@@ -22,6 +22,7 @@ fn cause_by(kind: &ErrorKind) -> (&'static str, i32) {
 fn argument_fault(fault: ArgumentFault) -> &'static str {
     match fault {
         ArgumentFault::CheckedFailure => "CheckedFailure",
+        ArgumentFault::TooLong => "TooLong",
         ArgumentFault::X509Password => "X509Password",
         _ => "another",
     }
@@ -29,6 +30,7 @@ fn argument_fault(fault: ArgumentFault) -> &'static str {
 
 fn auth_fault(fault: &AuthFault) -> &'static str {
     match fault {
+        AuthFault::NoUsername => "NoUsername",
         AuthFault::Verifier => "Verifier",
         AuthFault::Malformed => "Malformed",
         AuthFault::X509Failed => "X509Failed",

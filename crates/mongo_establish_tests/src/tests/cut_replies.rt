@@ -1,5 +1,6 @@
+use super::ends::{End, end_of, is_same_end};
 use super::failing::{exchanges_of, talk_of, who_of};
-use super::{End, PoolKind, SEVENTH, end_of, is_same_end, link_of, made_in_memory, new_state};
+use super::{PoolKind, SEVENTH, link_of, made_in_memory, new_state};
 use mongo_establish::{LoginState, RequestIds};
 use std::alloc::Global;
 use std::test::Fail;

@@ -1,5 +1,6 @@
+use super::ends::{End, end_of, is_same_end};
 use super::frames::{HELLO, STANDALONE};
-use super::{End, PoolKind, SEVENTH, Who, end_of, is_same_end, made_over_failing, new_state};
+use super::{PoolKind, SEVENTH, Who, made_over_failing, new_state};
 use mongo_bson::Bytes;
 use mongo_establish::{LoginState, RequestIds};
 use mongo_wire::{FailingLink, Sink, Source};

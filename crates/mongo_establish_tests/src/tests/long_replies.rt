@@ -1,13 +1,14 @@
 ghost use Rattle.std.specs.Prelude.{◌≤◌};
 
+use super::ends::{End, end_of, is_same_end};
 use super::failing::{ACCEPTED, CHALLENGE, NEGOTIATED};
-use super::{End, PoolKind, SEVENTH, Who, end_of, is_same_end, made_in_memory, new_state};
+use super::{PoolKind, SEVENTH, Who, made_in_memory, new_state};
 use mongo_establish::{Bytes, MemoryLink};
 use std::alloc::Global;
 use std::test::Fail;
 
 // Puts so many letters at the end.
-fn push_letters(bytes: &mut Vec<u8>, count: u32) -> Result<(), Fail> {
+pub(super) fn push_letters(bytes: &mut Vec<u8>, count: u32) -> Result<(), Fail> {
     const PIECE: [u8; 1024] = [0x41; 1024];
     for _ in 0..count / 1024 {
         bytes.extend_from_slice(&PIECE)?;

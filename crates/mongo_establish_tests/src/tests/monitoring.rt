@@ -1,5 +1,5 @@
 use super::causes::cause_of;
-use super::frames::{COMMAND_ERROR, HELLO, OK_TWICE, STANDALONE};
+use super::frames::{COMMAND_ERROR, HELLO, NUMBERED, OK_TWICE, STANDALONE};
 use super::{Tells, ended, establisher, link_of};
 use mongo_establish::{
     Connection, ConnectionEstablisher, Error, HelloReply, MemoryLink, RequestIds, ServerAddress,
@@ -8,19 +8,32 @@ use mongo_establish::{
 use std::alloc::Global;
 use std::test::Fail;
 
-/// What a monitor learns: a cause by name and number, or the server's type.
-type Learned = (&'static str, i32, Option<ServerType>);
+/// What a monitor learns: a cause by name and number, or the server's type, and its number for the connection.
+type Learned = (&'static str, i32, Option<ServerType>, Option<i64>);
 
 // What a connection and the reply to its hello say, where they agree.
 fn learned_of(connection: &Connection, reply: &HelloReply) -> Learned {
+    if !is_third(connection) {
+        return ("another connection", 0, None, None);
+    }
     let server_type = reply.command_response.server_type();
     match &connection.stream_description {
         Some(description) if description.initial_server_type == server_type => {
-            ("none", 0, Some(server_type))
+            ("none", 0, Some(server_type), connection.server_id)
         }
-        _ => ("another type", 0, None),
+        _ => ("another type", 0, None, None),
     }
 }
+
+// Whether it is the connection that was asked for.
+fn is_third(connection: &Connection) -> bool {
+    match &connection.address {
+        ServerAddress::Unix { path } => connection.id == 3 && path.as_str() == SOCKET,
+        ServerAddress::Tcp { .. } => false,
+    }
+}
+
+const SOCKET: &str = "/tmp/mongodb-27017.sock";
 
 impl Tells<Learned> for (Connection, HelloReply) {
     fn told(&self) -> Learned {
@@ -31,12 +44,12 @@ impl Tells<Learned> for (Connection, HelloReply) {
 impl Tells<Learned> for Error {
     fn told(&self) -> Learned {
         let (name, number) = cause_of(self);
-        (name, number, None)
+        (name, number, None, None)
     }
 }
 
 fn address(alloc: Global) -> Result<ServerAddress, Fail> {
-    let path = Text::from_slice(alloc, "/tmp/mongodb-27017.sock")?;
+    let path = Text::from_slice(alloc, SOCKET)?;
     Ok(ServerAddress::Unix { path })
 }
 
@@ -121,17 +134,23 @@ fn a_monitor_learns_each_servers_type(rt: HostRuntime) -> Result<(), Fail> {
         let (elements, server) = server_at(place);
         let reply = reply_with(rt.alloc(), elements)?;
         assert!(rt;
-            learns(rt.alloc(), reply.as_slice(), ("none", 0, Some(server)))?,
+            learns(
+                rt.alloc(),
+                reply.as_slice(),
+                ("none", 0, Some(server), None)
+            )?,
             "{place}"
         );
     }
+    let numbered = ("none", 0, Some(ServerType::Standalone), Some(42));
+    assert!(rt; learns(rt.alloc(), &NUMBERED, numbered)?);
     Ok(())
 }
 
 #[test]
 fn a_monitor_is_told_what_it_is_refused_for(rt: HostRuntime) -> Result<(), Fail> {
-    assert!(rt; learns(rt.alloc(), &COMMAND_ERROR, ("Command", 18, None))?);
-    assert!(rt; learns(rt.alloc(), &OK_TWICE, ("Hello", 0, None))?);
-    assert!(rt; learns(rt.alloc(), &STANDALONE[..85], ("EndOfInput", 0, None))?);
+    assert!(rt; learns(rt.alloc(), &COMMAND_ERROR, ("Command", 18, None, None))?);
+    assert!(rt; learns(rt.alloc(), &OK_TWICE, ("Hello", 0, None, None))?);
+    assert!(rt; learns(rt.alloc(), &STANDALONE[..85], ("EndOfInput", 0, None, None))?);
     Ok(())
 }
