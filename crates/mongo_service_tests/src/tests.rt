@@ -88,12 +88,17 @@ fn says(report: &MemoryLink, line: &str) -> bool {
     }
 }
 
-// How the program ends on these bytes, and whether it says the line.
+// How the program ends over this link, and whether it says the line.
+fn ends_on(alloc: Global, link: &mut MemoryLink, line: &str) -> (ServeStatus, bool) {
+    let mut report = silent(alloc);
+    let status = run_in_memory(alloc, link, &mut report);
+    (status, says(&report, line))
+}
+
+// The same on these bytes.
 fn ends(alloc: Global, input: Bytes, line: &str) -> (ServeStatus, bool) {
     let mut link = MemoryLink::new(alloc, input);
-    let mut report = silent(alloc);
-    let status = run_in_memory(alloc, &mut link, &mut report);
-    (status, says(&report, line))
+    ends_on(alloc, &mut link, line)
 }
 
 // What a client sends after the settings, and what is said of it; all but the first two break the protocol.
@@ -213,11 +218,17 @@ fn greatest_frame(alloc: Global) -> Result<Bytes, BsonFault> {
     Ok(input)
 }
 
+// The reply to it, laid out by Python's `struct` as OP_MSG and BSON 1.1 say: the first, to the id 7. Nobody has logged in, so it is the
+// error 13 of MongoDB's list, as a ping before a login has it in the run that `crates/mongo_serve` stores.
+const UNAUTHORIZED: &[u8] =
+    b"w\0\0\0\x01\0\0\0\x07\0\0\0\xdd\x07\0\0\0\0\0\0\0b\0\0\0\x01ok\0\0\0\0\0\0\0\0\0\x02errmsg\0 \0\0\0Command requires authentication\0\x10code\0\x0d\0\0\0\x02codeName\0\x0d\0\0\0Unauthorized\0\0";
+
 #[test]
 fn greatest_frame_is_answered(rt: HostRuntime) -> Result<(), Fail> {
-    let input = greatest_frame(rt.alloc())?;
-    let ended = ends(rt.alloc(), input, "the client ended its stream");
+    let mut link = MemoryLink::new(rt.alloc(), greatest_frame(rt.alloc())?);
+    let ended = ends_on(rt.alloc(), &mut link, "the client ended its stream");
     assert!(rt; ended == (ServeStatus::Ended, true));
+    assert!(rt; link.written() == UNAUTHORIZED);
     Ok(())
 }
 

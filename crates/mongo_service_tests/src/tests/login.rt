@@ -8,8 +8,10 @@ use mongo_service::ServeStatus;
 pub(super) const USERS: &[u8] =
     b"{\"users\": [{\"name\": \"user\", \"password\": \"pencil\", \"mechanisms\": [\"SCRAM-SHA-1\", \"SCRAM-SHA-256\"], \"salts\": [\"ad0f59637337b4178ebf71354c3542e3\", \"5b6d99689d12358eeca04b141236fa81\"], \"count\": 4096}], \"nonce\": \"3rfcNHYJY1ZVvWVs7j\"}\n";
 
-// What the client sends: its messages of a login by SCRAM-SHA-1, the empty one that ends it, and a ping. They stand in the crate's
-// stored run.
+// What the client sends: its messages of a login by SCRAM-SHA-1, the empty one that ends it, and a ping. These frames and those of the
+// replies are what Python's `struct` makes by BSON 1.1 and the OP_MSG specification; the client's proof and the server's verifier, by
+// RFC 5802 with the password as MongoDB's SCRAM-SHA-1 has it, are those of its `hashlib` and `hmac`. They stand in the run that is stored
+// in `crates/mongo_serve`, its files `stdin` and `stdout`, too.
 pub(super) const FIRST: &[u8] =
     b"\x85\0\0\0k\0\0\0\0\0\0\0\xdd\x07\0\0\0\0\0\0\0p\0\0\0\x10saslStart\0\x01\0\0\0\x02mechanism\0\x0c\0\0\0SCRAM-SHA-1\0\x05payload\0$\0\0\0\0n,,n=user,r=fyko+d2lbbFgONRv9qkxdawL\x02$db\0\x06\0\0\0admin\0\0";
 
@@ -22,7 +24,7 @@ pub(super) const EMPTY: &[u8] =
 pub(super) const PING_AFTER: &[u8] =
     b"W\0\0\0h\0\0\0\0\0\0\0\xdd\x07\0\0\0\0\0\0\0B\0\0\0\x10ping\0\x01\0\0\0\x03lsid\0\x1e\0\0\0\x05id\0\x10\0\0\0\0xxxxxxxxxxxxxxxx\0\x02$db\0\x06\0\0\0admin\0\0";
 
-// The replies, of 157, 109, 79 and 38 bytes: those of the stored run, numbered from 1.
+// The replies, of 157, 109, 79 and 38 bytes, numbered from 1. The stored run has them under other numbers.
 pub(super) const REPLIES: &[u8] =
     b"\x9d\0\0\0\x01\0\0\0k\0\0\0\xdd\x07\0\0\0\0\0\0\0\x88\0\0\0\x10conversationId\0\x01\0\0\0\x08done\0\0\x05payload\0N\0\0\0\0r=fyko+d2lbbFgONRv9qkxdawL3rfcNHYJY1ZVvWVs7j,s=rQ9ZY3M3tBeOv3E1TDVC4w==,i=4096\x01ok\0\0\0\0\0\0\0\xf0?\0m\0\0\0\x02\0\0\0l\0\0\0\xdd\x07\0\0\0\0\0\0\0X\0\0\0\x10conversationId\0\x01\0\0\0\x08done\0\0\x05payload\0\x1e\0\0\0\0v=l2cJuLOMTtUpn4D0JaKJLWFvUIM=\x01ok\0\0\0\0\0\0\0\xf0?\0O\0\0\0\x03\0\0\0m\0\0\0\xdd\x07\0\0\0\0\0\0\0:\0\0\0\x10conversationId\0\x01\0\0\0\x08done\0\x01\x05payload\0\0\0\0\0\0\x01ok\0\0\0\0\0\0\0\xf0?\0&\0\0\0\x04\0\0\0h\0\0\0\xdd\x07\0\0\0\0\0\0\0\x11\0\0\0\x01ok\0\0\0\0\0\0\0\xf0?\0";
 
