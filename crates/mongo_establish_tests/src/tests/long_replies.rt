@@ -8,7 +8,7 @@ use std::alloc::Global;
 use std::test::Fail;
 
 // Puts so many letters at the end.
-pub(super) fn push_letters(bytes: &mut Vec<u8>, count: u32) -> Result<(), Fail> {
+fn push_letters(bytes: &mut Vec<u8>, count: u32) -> Result<(), Fail> {
     const PIECE: [u8; 1024] = [0x41; 1024];
     for _ in 0..count / 1024 {
         bytes.extend_from_slice(&PIECE)?;
