@@ -61,14 +61,15 @@ fn is_answer_copied<R: Copied, E: Copied>(
     }
 }
 
-// The same of an establishment for nobody, with a counter of its own, of the ledger that `blank` opens.
+// The same of an establishment for nobody, which says what the row at this place does, with a counter of its own, of the ledger that
+// `blank` opens.
 fn is_made_copied<G: Ledger>(
     blank: Blank,
     alloc: Global,
     establisher: &ConnectionEstablisher,
     pool: PoolKind,
     link: &mut MemoryLink,
-    says: &str,
+    place: u8,
 ) -> Result<bool, Fail>
     requires name { blank.name ≡ G.name }
     requires parts { blank.parts ≡ G.parts }
@@ -86,6 +87,7 @@ fn is_made_copied<G: Ledger>(
         &inputs(),
         &mut steps,
     );
+    let (_, _, says) = row_at(place);
     is_answer_copied(alloc, answer, says)
 }
 
@@ -113,17 +115,17 @@ fn row_at(place: u8) -> Row {
     }
 }
 
-fn is_row_copied(alloc: Global, row: &Row) -> Result<bool, Fail> {
-    let (pool, reply, says) = *row;
+fn is_row_copied(alloc: Global, place: u8) -> Result<bool, Fail> {
+    let (pool, reply, _) = row_at(place);
     let establisher = establisher(alloc)?;
     let mut link = link_of(alloc, reply)?;
-    is_made_copied::<Brand>(Blank::new(1), alloc, &establisher, pool, &mut link, says)
+    is_made_copied::<Brand>(Blank::new(1), alloc, &establisher, pool, &mut link, place)
 }
 
 #[test]
 fn what_an_establishment_gives_is_copied(rt: HostRuntime) -> Result<(), Fail> {
     for place in 0..4 {
-        assert!(rt; is_row_copied(rt.alloc(), &row_at(place))?, "{place}");
+        assert!(rt; is_row_copied(rt.alloc(), place)?, "{place}");
     }
     Ok(())
 }
