@@ -23,7 +23,7 @@ pub fn client_final(alloc: Global, written: Bytes) -> Result<Bytes, AllocError>
     let mut link = MemoryLink::new(alloc, written);
     let mut buffer = FrameBuffer::new(alloc);
     match take_second(&mut link, &mut buffer) {
-        Ok(()) => payload_of(alloc, held_reply(&buffer)),
+        Ok(()) => copied_payload(alloc, held_reply(&buffer)),
         Err(fault) => match fault {
             FrameFault::OutOfMemory => Err(AllocError),
             // both frames are there
@@ -57,7 +57,7 @@ fn take_next(link: &mut MemoryLink, buffer: &mut FrameBuffer) -> Result<(), Fram
 }
 
 // The bytes of the binary value under `payload`.
-fn payload_of(alloc: Global, document: RawDocument<'_>) -> Result<Bytes, AllocError>
+fn copied_payload(alloc: Global, document: RawDocument<'_>) -> Result<Bytes, AllocError>
     requires carried { (payload : List ℕ) × CarriesPayload payload document.bytes.now }
     ensures found { (payload : List ℕ) → CarriesPayload payload document.entry.bytes.now → IfOk result (λ found. found ≡ payload) }
 {

@@ -104,13 +104,13 @@ fn success_of(alloc: Global, fields: &Fields<'_>) -> Result<(), Error>
     };
     match get_int_raw(ok) {
         Some(1) => Ok(()),
-        Some(_) => Err(failure_of(alloc, fields)),
+        Some(_) => Err(authentication_failure(alloc, fields)),
         None => Err(unreadable_fields(FieldFault::Unreadable)),
     }
 }
 
 // What a failure says.
-fn failure_of(alloc: Global, fields: &Fields<'_>) -> Error
+fn authentication_failure(alloc: Global, fields: &Fields<'_>) -> Error
     ensures { (elements : List Element) → AreFields elements fields.now → IsFailureOf (field_of errmsg_key elements) result.kind }
 {
     let text = match fields.value(ERRMSG) {

@@ -24,15 +24,15 @@ fn push_character(text: &mut String, character: char) -> Result<(), AllocError>
     ensures { OnOk result (string_bytes text.new ≡ string_bytes text.old ++ escaped (encode_utf8 character)) }
 {
     if character == '=' {
-        push_code(text, EQUALS_CODE)
+        push_escape(text, EQUALS_CODE)
     } else if character == ',' {
-        push_code(text, COMMA_CODE)
+        push_escape(text, COMMA_CODE)
     } else {
         text.push(character)
     }
 }
 
-fn push_code(text: &mut String, code: &str) -> Result<(), AllocError>
+fn push_escape(text: &mut String, code: &str) -> Result<(), AllocError>
     ensures { OnOk result (string_bytes text.new ≡ string_bytes text.old ++ (0x3D ∷ code.now)) }
 {
     text.push('=')?;

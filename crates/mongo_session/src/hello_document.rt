@@ -107,20 +107,20 @@ fn names_document(alloc: Global, mechanisms: Mechanisms) -> Result<RawDocumentBu
     ensures refused { IfErr result (λ fault. fault ≡ OutOfMemory) }
 {
     match mechanisms {
-        Mechanisms::Sha1 => document_of(alloc, &[name_field("0", ScramVersion::Sha1)]),
-        Mechanisms::Sha256 => document_of(alloc, &[name_field("0", ScramVersion::Sha256)]),
+        Mechanisms::Sha1 => document_of(alloc, &[mechanism_field("0", ScramVersion::Sha1)]),
+        Mechanisms::Sha256 => document_of(alloc, &[mechanism_field("0", ScramVersion::Sha256)]),
         Mechanisms::Both => document_of(
             alloc,
             &[
-                name_field("0", ScramVersion::Sha1),
-                name_field("1", ScramVersion::Sha256),
+                mechanism_field("0", ScramVersion::Sha1),
+                mechanism_field("1", ScramVersion::Sha256),
             ],
         ),
     }
 }
 
 // The name of a mechanism, at its place in the array.
-fn name_field(place: &'static str, version: ScramVersion) -> ArgumentField<'static>
+fn mechanism_field(place: &'static str, version: ScramVersion) -> ArgumentField<'static>
     requires { ¬ Contains place.now 0 }
     ensures elements { field_elements result ≡ text_element place.now (version_name version) ∷ [] }
     ensures named { IsNamed result }

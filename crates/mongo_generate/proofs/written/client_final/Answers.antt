@@ -9,8 +9,8 @@ use Rattle.mongo_generate.proofs.written.client_final.Goals as goal
 given_by : (payload written : List ℕ) (link : MemoryLink) → link.at ≡ 0 → link.input.items ≡ written → CarriesPayloadLast payload written → CarriesPayloadLast payload (bytes_left link)
 given_by payload written link at input = subst (CarriesPayloadLast payload) (sym (ap (λ n. drop n link.input.items) at ∙ input))
 
-pub payload_of-requires : goal.payload_of-requires
-payload_of-requires c =
+pub copied_payload-requires : goal.copied_payload-requires
+copied_payload-requires c =
     let link = c.new-link in
     let (payload, carries) = c.requires.carried in
     let given = given_by payload c.args.written link.result link.ensures.at link.ensures.input carries in
@@ -23,7 +23,7 @@ returns-in-Ok c = record {
       let link = c.new-link in
       let given = given_by payload c.args.written link.result link.ensures.at link.ensures.input carries in
       let held = document_held given.second given.second_parts c.take_second.new.buffer (c.in-Ok.ensures.second payload given) in
-      c.payload_of.ensures.found payload (subst (CarriesPayload payload) (sym (c.held_reply.ensures ∙ held)) given.carried);
+      c.copied_payload.ensures.found payload (subst (CarriesPayload payload) (sym (c.held_reply.ensures ∙ held)) given.carried);
 }
 
 pub unreachable-requires : goal.unreachable-requires

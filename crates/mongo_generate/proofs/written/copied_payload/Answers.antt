@@ -3,7 +3,7 @@ use Rattle.mongo_bson.specs.Find.{FindsValue}
 use Rattle.mongo_bson.specs.Framed.{element_bytes}
 use Rattle.mongo_sasl.specs.Keys.{payload_key}
 use Rattle.mongo_generate.proofs.Payloads.{payload_found, payload_absent, payload_broken}
-use Rattle.mongo_generate.proofs.written.payload_of.Goals as goal
+use Rattle.mongo_generate.proofs.written.copied_payload.Goals as goal
 
 pub binary_content-requires : goal.binary_content-requires
 binary_content-requires c =
