@@ -11,7 +11,7 @@ use Rattle.mongo_wire.specs.Error.{kind_of_fault}
 use Rattle.mongo_wire.specs.Outside.{State}
 use Rattle.mongo_command.specs.Connection.{kept_fault, KeepsRest}
 use Rattle.mongo_command.specs.EndsExchange.{Footing, Refusals, EndsExchange}
-use Rattle.mongo_command.specs.Exchange.{command_message, frame_maximum, CountsStay, ExchangeRefused}
+use Rattle.mongo_command.specs.Exchange.{command_message, frame_maximum, CountsStay, ExchangeRefused, point}
 use Rattle.mongo_command.specs.declared.command.Command.{Command}
 use Rattle.mongo_command.proofs.Rest.{keeps_all, none_some}
 use Rattle.mongo_command.proofs.Talked.{still_counts}
@@ -26,7 +26,7 @@ no_answer x e is = cc
 module _ {L : Type 0} (state : L → State) (command : Command) where
   -- a refusal has its cause, and says what it left
   abbrev pub HasRefusalCause : Refusals → ErrorKind → Footing L → Footing L → Type 0
-  HasRefusalCause Refused kind old new = Refused kind (frame_maximum old.connection.stream_description) (command_message command) (state old.link) (state new.link) old.id new.id (kept_fault new.connection)
+  HasRefusalCause Refused kind old new = Refused kind (frame_maximum old.connection.stream_description) (command_message command) (point (state old.link) old.id) (point (state new.link) new.id) (kept_fault new.connection)
 
   -- a fault that is kept was answered
   pub ends_kept : {T U : Type 0} (Refused : Refusals) (at : Footing L) (r : Result T Error) (e : Error) → IsErrAnd r (λ x. x ≡ e) → ((kind : ErrorKind) → kept_fault at.connection ≡ Some kind → ◌≡◌ {A = Result U Error} (Err e) (Err (record { kind = kind })))

@@ -18,9 +18,9 @@ use Rattle.mongo_wire.specs.Frame.{Frame}
 use Rattle.mongo_wire.specs.declared.fault.FrameFault.{FrameFault}
 use Rattle.mongo_wire.specs.Error.{kind_of_frame_fault}
 use Rattle.mongo_wire.specs.declared.frame_buffer.FrameBuffer.{FrameBuffer}
-use Rattle.mongo_command.specs.Exchange.{Cut, Sends, SendRefused, sent_fault, Receives, ReceiveRefused}
+use Rattle.mongo_command.specs.Exchange.{Cut, Sends, SendRefused, sent_fault, Receives, ReceiveRefused, point}
 
-cut_of : (kind : ErrorKind) (maximum : ℤ) (m : Message) (old new : State) (before after : ℤ) → m.request_id ≡ None → Unread old new → WriteCut maximum m old new before after → Cut kind maximum m old new before after (Some kind)
+cut_of : (kind : ErrorKind) (maximum : ℤ) (m : Message) (old new : State) (before after : ℤ) → m.request_id ≡ None → Unread old new → WriteCut maximum m old new before after → Cut kind maximum m (point old before) (point new after) (Some kind)
 cut_of kind maximum m old new before after none unread w = record {
   fits = w.fits;
   front = subst (λ id. AppendsFront old.written new.written (written_frame id m)) (ap (λ o. unwrap_or o before) none) w.front;
@@ -31,21 +31,21 @@ cut_of kind maximum m old new before after none unread w = record {
   kept_is = refl;
 }
 
-refused_kind : (kind : ErrorKind) (maximum : ℤ) (m : Message) (old new : State) (before after : ℤ) → m.request_id ≡ None → length m.document_payload ≤ maximum_length → Unread old new → ((fault : ArgumentFault) → kind ≡ InvalidArgument fault → new ≡ old) → WriteRefused kind maximum m old new before after → SendRefused kind maximum m old new before after (sent_fault kind)
+refused_kind : (kind : ErrorKind) (maximum : ℤ) (m : Message) (old new : State) (before after : ℤ) → m.request_id ≡ None → length m.document_payload ≤ maximum_length → Unread old new → ((fault : ArgumentFault) → kind ≡ InvalidArgument fault → new ≡ old) → WriteRefused kind maximum m old new before after → SendRefused kind maximum m (point old before) (point new after) (sent_fault kind)
 refused_kind (InvalidArgument (Bson TooLong)) maximum m old new before after none short unread same w = absurd w.0
 refused_kind (InvalidArgument fault) maximum m old new before after none short unread same w = (short, w.0, record { link = same fault refl; ids = w.2; kept_is = refl })
 refused_kind WriteFault maximum m old new before after none short unread same w = (w.0, cut_of WriteFault maximum m old new before after none unread w.1)
 refused_kind OutOfMemory maximum m old new before after none short unread same w = inr (w.0, cut_of OutOfMemory maximum m old new before after none unread w.1)
 refused_kind kind maximum m old new before after none short unread same w = absurd w
 
-pub send_refused : {L : Type 0} (state : L → State) (l l' : L) (r : Result ⊤ Error) (maximum : ℤ) (m : Message) (before after : ℤ) → m.request_id ≡ None → length m.document_payload ≤ maximum_length → Unread (state l) (state l') → ((fault : ArgumentFault) → IfErr r (λ e. e.kind ≡ InvalidArgument fault → l' ≡ l)) → IfErr r (λ e. WriteRefused e.kind maximum m (state l) (state l') before after) → IfErr r (λ e. SendRefused e.kind maximum m (state l) (state l') before after (sent_fault e.kind))
+pub send_refused : {L : Type 0} (state : L → State) (l l' : L) (r : Result ⊤ Error) (maximum : ℤ) (m : Message) (before after : ℤ) → m.request_id ≡ None → length m.document_payload ≤ maximum_length → Unread (state l) (state l') → ((fault : ArgumentFault) → IfErr r (λ e. e.kind ≡ InvalidArgument fault → l' ≡ l)) → IfErr r (λ e. WriteRefused e.kind maximum m (state l) (state l') before after) → IfErr r (λ e. SendRefused e.kind maximum m (point (state l) before) (point (state l') after) (sent_fault e.kind))
 send_refused state l l' (Ok x) maximum m before after none short unread same w = tt
 send_refused state l l' (Err e) maximum m before after none short unread same w = refused_kind e.kind maximum m (state l) (state l') before after none short unread (λ fault is. ap state (same fault is)) w
 
 tells : (m : Message) → m.checksum ≡ None → TellsChecksum m
 tells m p = subst (λ c. IfSome c (λ sum. bit_and m.flags.0 known_flags % 2 ≡ 1)) (sym p) tt
 
-pub sent : (r : Result ⊤ Error) (maximum : ℤ) (m : Message) (old new : State) (before after : ℤ) → m.request_id ≡ None → m.checksum ≡ None → Unread old new → OnOk r (Writes maximum m old new before after) → OnOk r (TellsChecksum m → IsFrameOf (id_of m before) m (written_frame (id_of m before) m)) → OnOk r (Sends maximum m old new before after)
+pub sent : (r : Result ⊤ Error) (maximum : ℤ) (m : Message) (old new : State) (before after : ℤ) → m.request_id ≡ None → m.checksum ≡ None → Unread old new → OnOk r (Writes maximum m old new before after) → OnOk r (TellsChecksum m → IsFrameOf (id_of m before) m (written_frame (id_of m before) m)) → OnOk r (Sends maximum m (point old before) (point new after))
 sent (Ok x) maximum m old new before after none unsummed unread w frame =
     let id_is : id_of m before ≡ before = ap (λ o. unwrap_or o before) none in
     record {

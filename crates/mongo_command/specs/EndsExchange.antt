@@ -5,7 +5,7 @@ use Rattle.mongo_wire.specs.declared.error.ErrorKind.{ErrorKind}
 use Rattle.mongo_wire.specs.declared.message.Message.{Message}
 use Rattle.mongo_wire.specs.Outside.{State}
 use Rattle.mongo_command.specs.Connection.{kept_fault, KeepsRest}
-use Rattle.mongo_command.specs.Exchange.{command_message, frame_maximum, CountsStay}
+use Rattle.mongo_command.specs.Exchange.{command_message, frame_maximum, CountsStay, Point, point}
 use Rattle.mongo_command.specs.declared.command.Command.{Command}
 use Rattle.mongo_command.specs.declared.connection.Connection.{Connection}
 
@@ -20,14 +20,14 @@ footing connection link id = record { connection = connection; link = link; id =
 
 -- a call's refusals: why each comes, and what it leaves in the link, the ids and the connection
 abbrev pub Refusals : Type 1
-Refusals = ErrorKind → ℤ → Message → State → State → ℤ → ℤ → Option ErrorKind → Type 0
+Refusals = ErrorKind → ℤ → Message → Point → Point → Option ErrorKind → Type 0
 
 -- How a call ends that sends a command and takes its reply.
 pub record EndsExchange {L T : Type 0} (state : L → State) (Refused : Refusals) (command : Command) (result : Result T Error) (old new : Footing L) : Type 0 where
   -- a fault that the connection keeps is answered again, and nothing is done
   pub kept : (kind : ErrorKind) → kept_fault old.connection ≡ Some kind → (result ≡ Err (record { kind = kind })) × (new.link ≡ old.link) × (new.id ≡ old.id) × (kept_fault new.connection ≡ Some kind)
   -- else each refusal has its cause, and says what it left
-  pub refused : kept_fault old.connection ≡ None → IfErr result (λ e. Refused e.kind (frame_maximum old.connection.stream_description) (command_message command) (state old.link) (state new.link) old.id new.id (kept_fault new.connection))
+  pub refused : kept_fault old.connection ≡ None → IfErr result (λ e. Refused e.kind (frame_maximum old.connection.stream_description) (command_message command) (point (state old.link) old.id) (point (state new.link) new.id) (kept_fault new.connection))
   -- after an answer no fault is kept
   pub faultless : OnOk result (kept_fault new.connection ≡ None)
   -- nothing else of the connection changes

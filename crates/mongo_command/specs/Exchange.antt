@@ -36,18 +36,26 @@ DocumentRefused (InvalidArgument (Bson TooLong)) document = maximum_length < len
 DocumentRefused OutOfMemory document = ⊤
 DocumentRefused kind document = ⊥
 
+-- where an exchange begins, and where it ends: what its link tells, and the next id
+pub record Point : Type 0 where
+  pub state : State
+  pub id : ℤ
+
+abbrev pub point : State → ℤ → Point
+point state id = record { state = state; id = id }
+
 -- the frame of the message stands at the end of what was written, all of it is flushed, its id is drawn, and nothing
 -- was read. No fault was counted.
-pub record Sends (maximum : ℤ) (message : Message) (old new : State) (before after : ℤ) : Type 0 where
+pub record Sends (maximum : ℤ) (message : Message) (old new : Point) : Type 0 where
   pub fits : Fits maximum message
-  pub written : Appends old.written new.written (written_frame before message)
-  pub frame : IsFrameOf before message (written_frame before message)
-  pub flushed : IsFlushed new
-  pub unread : new.left ≡ old.left
-  pub reads : new.read_faults ≡ old.read_faults
-  pub ends : new.ends ≡ old.ends
-  pub writes : new.write_faults ≡ old.write_faults
-  pub drawn : after ≡ next_id before
+  pub written : Appends old.state.written new.state.written (written_frame old.id message)
+  pub frame : IsFrameOf old.id message (written_frame old.id message)
+  pub flushed : IsFlushed new.state
+  pub unread : new.state.left ≡ old.state.left
+  pub reads : new.state.read_faults ≡ old.state.read_faults
+  pub ends : new.state.ends ≡ old.state.ends
+  pub writes : new.state.write_faults ≡ old.state.write_faults
+  pub drawn : new.id ≡ next_id old.id
 
 -- One frame within the maximum was taken, of this document, and nothing after it. No fault and no end was counted.
 pub record Receives (maximum : ℤ) (old new : State) (document : List ℕ) : Type 0 where
@@ -61,29 +69,29 @@ pub record Receives (maximum : ℤ) (old new : State) (document : List ℕ) : Ty
   pub document_is : document ≡ parts.body
 
 -- an exchange: the message is sent, and then one of this document is received
-pub record Exchanges (maximum : ℤ) (message : Message) (old new : State) (before after : ℤ) (document : List ℕ) : Type 0 where
+pub record Exchanges (maximum : ℤ) (message : Message) (old new : Point) (document : List ℕ) : Type 0 where
   pub middle : State
-  pub sends : Sends maximum message old middle before after
-  pub receives : Receives maximum middle new document
+  pub sends : Sends maximum message old (point middle new.id)
+  pub receives : Receives maximum middle new.state document
 
 -- the buffer holds a frame
 abbrev pub HoldsReply : FrameBuffer → Type 0
 HoldsReply buffer = (frame : List ℕ) × (parts : Frame) × HoldsFrame frame parts buffer
 
 -- nothing was done
-pub record Unsent (old new : State) (before after : ℤ) (kept : Option ErrorKind) : Type 0 where
-  pub link : new ≡ old
-  pub ids : after ≡ before
+pub record Unsent (old new : Point) (kept : Option ErrorKind) : Type 0 where
+  pub link : new.state ≡ old.state
+  pub ids : new.id ≡ old.id
   pub kept_is : kept ≡ None
 
 -- the frame was cut by the sink: its id is drawn, a front of it is written, nothing was read, and the fault is kept
-pub record Cut (kind : ErrorKind) (maximum : ℤ) (message : Message) (old new : State) (before after : ℤ) (kept : Option ErrorKind) : Type 0 where
+pub record Cut (kind : ErrorKind) (maximum : ℤ) (message : Message) (old new : Point) (kept : Option ErrorKind) : Type 0 where
   pub fits : Fits maximum message
-  pub front : AppendsFront old.written new.written (written_frame before message)
-  pub unread : new.left ≡ old.left
-  pub reads : new.read_faults ≡ old.read_faults
-  pub ends : new.ends ≡ old.ends
-  pub drawn : after ≡ next_id before
+  pub front : AppendsFront old.state.written new.state.written (written_frame old.id message)
+  pub unread : new.state.left ≡ old.state.left
+  pub reads : new.state.read_faults ≡ old.state.read_faults
+  pub ends : new.state.ends ≡ old.state.ends
+  pub drawn : new.id ≡ next_id old.id
   pub kept_is : kept ≡ Some kind
 
 -- the fault that a refused send leaves to be kept: none where no id was drawn
@@ -93,12 +101,12 @@ sent_fault kind = Some kind
 
 -- why a message wasn't sent, and what that left; a document that is too long is found before the rest is tested, in the
 -- order of writing
-abbrev pub SendRefused : ErrorKind → ℤ → Message → State → State → ℤ → ℤ → Option ErrorKind → Type 0
-SendRefused (InvalidArgument (Bson TooLong)) maximum message old new before after kept = (maximum_length < length message.document_payload) × Unsent old new before after kept
-SendRefused (InvalidArgument fault) maximum message old new before after kept = (length message.document_payload ≤ maximum_length) × ArgumentRow fault maximum message × Unsent old new before after kept
-SendRefused WriteFault maximum message old new before after kept = Rose old.write_faults new.write_faults × Cut WriteFault maximum message old new before after kept
-SendRefused OutOfMemory maximum message old new before after kept = Unsent old new before after kept ⊎ ((new.write_faults ≡ old.write_faults) × Cut OutOfMemory maximum message old new before after kept)
-SendRefused kind maximum message old new before after kept = ⊥
+abbrev pub SendRefused : ErrorKind → ℤ → Message → Point → Point → Option ErrorKind → Type 0
+SendRefused (InvalidArgument (Bson TooLong)) maximum message old new kept = (maximum_length < length message.document_payload) × Unsent old new kept
+SendRefused (InvalidArgument fault) maximum message old new kept = (length message.document_payload ≤ maximum_length) × ArgumentRow fault maximum message × Unsent old new kept
+SendRefused WriteFault maximum message old new kept = Rose old.state.write_faults new.state.write_faults × Cut WriteFault maximum message old new kept
+SendRefused OutOfMemory maximum message old new kept = Unsent old new kept ⊎ ((new.state.write_faults ≡ old.state.write_faults) × Cut OutOfMemory maximum message old new kept)
+SendRefused kind maximum message old new kept = ⊥
 
 -- no frame was received: why, and what of the bytes left was taken
 pub record ReceiveRefused (kind : ErrorKind) (maximum : ℤ) (old new : State) : Type 0 where
@@ -106,22 +114,22 @@ pub record ReceiveRefused (kind : ErrorKind) (maximum : ℤ) (old new : State) :
   pub unwritten : Unwritten old new
 
 -- the message was sent and no frame was received; the fault is kept
-pub record Unanswered (kind : ErrorKind) (maximum : ℤ) (message : Message) (old new : State) (before after : ℤ) (kept : Option ErrorKind) : Type 0 where
+pub record Unanswered (kind : ErrorKind) (maximum : ℤ) (message : Message) (old new : Point) (kept : Option ErrorKind) : Type 0 where
   pub middle : State
-  pub sends : Sends maximum message old middle before after
-  pub refused : ReceiveRefused kind maximum middle new
+  pub sends : Sends maximum message old (point middle new.id)
+  pub refused : ReceiveRefused kind maximum middle new.state
   pub kept_is : kept ≡ Some kind
 
 -- Why an exchange was refused, and what it left in the link, the ids and the connection.
-abbrev pub ExchangeRefused : ErrorKind → ℤ → Message → State → State → ℤ → ℤ → Option ErrorKind → Type 0
-ExchangeRefused kind maximum message old new before after kept = SendRefused kind maximum message old new before after kept ⊎ Unanswered kind maximum message old new before after kept
+abbrev pub ExchangeRefused : ErrorKind → ℤ → Message → Point → Point → Option ErrorKind → Type 0
+ExchangeRefused kind maximum message old new kept = SendRefused kind maximum message old new kept ⊎ Unanswered kind maximum message old new kept
 
 -- What a refused exchange leaves of a buffer: what it was where the message wasn't sent, and nothing where it was sent and
 -- no frame was received.
-abbrev pub BufferRefused : ErrorKind → ℤ → Message → State → State → ℤ → ℤ → Option ErrorKind → FrameBuffer → FrameBuffer → Type 0
-BufferRefused kind maximum message old new before after kept buffer_old buffer_new =
-    (SendRefused kind maximum message old new before after kept × (buffer_new ≡ buffer_old))
-    ⊎ (Unanswered kind maximum message old new before after kept × IsCleared buffer_old buffer_new)
+abbrev pub BufferRefused : ErrorKind → ℤ → Message → Point → Point → Option ErrorKind → FrameBuffer → FrameBuffer → Type 0
+BufferRefused kind maximum message old new kept buffer_old buffer_new =
+    (SendRefused kind maximum message old new kept × (buffer_new ≡ buffer_old))
+    ⊎ (Unanswered kind maximum message old new kept × IsCleared buffer_old buffer_new)
 
 -- no fault and no end was counted
 pub record Uncounted (old new : State) : Type 0 where

@@ -9,7 +9,7 @@ use Rattle.mongo_command.specs.Connection.{kept_fault}
 use Rattle.mongo_command.specs.declared.server_api.ServerApi.{ServerApi}
 use Rattle.mongo_command.specs.declared.stream_description.StreamDescription.{StreamDescription}
 use Rattle.mongo_command.specs.Conversation.{Event, Turn, Plan, ending, followed_by, Reached, StoppedKeeping}
-use Rattle.mongo_command.specs.Exchange.{frame_maximum}
+use Rattle.mongo_command.specs.Exchange.{frame_maximum, point}
 use Rattle.mongo_command.proofs.Steps.{reached_ending, reached_more, stopped_more}
 use Rattle.mongo_command.proofs.FollowedBy.{reached_both, stopped_first}
 use Rattle.mongo_sasl.specs.declared.credential.Credential.{Credential}
@@ -42,10 +42,10 @@ abbrev followed : {A : Type 0} → Plan A → Greeting → Plan Greeting
 followed plan greeting = followed_by plan (λ done. ending greeting)
 
 -- a conversation whose answer isn't looked at, and then the greeting's end
-then_reached : {A : Type 0} (plan : Plan A) (answer : A) (greeting : Greeting) (old new : State) (before after : ℤ) → Reached plan answer old new before after → Reached (followed plan greeting) greeting old new before after
+then_reached : {A : Type 0} (plan : Plan A) (answer : A) (greeting : Greeting) (old new : State) (before after : ℤ) → Reached plan answer (point old before) (point new after) → Reached (followed plan greeting) greeting (point old before) (point new after)
 then_reached plan answer greeting old new before after r = reached_both plan (λ done. ending greeting) answer greeting old new new before after after r (reached_ending greeting new after)
 
-then_stopped : {A : Type 0} {kept : Option ErrorKind} (plan : Plan A) (greeting : Greeting) (kind : ErrorKind) (old new : State) (before after : ℤ) → StoppedKeeping plan kind old new before after kept → StoppedKeeping (followed plan greeting) kind old new before after kept
+then_stopped : {A : Type 0} {kept : Option ErrorKind} (plan : Plan A) (greeting : Greeting) (kind : ErrorKind) (old new : State) (before after : ℤ) → StoppedKeeping plan kind (point old before) (point new after) kept → StoppedKeeping (followed plan greeting) kind (point old before) (point new after) kept
 then_stopped plan greeting kind old new before after s = stopped_first plan (λ done. ending greeting) kind old new before after s
 
 -- ---- SCRAM
@@ -60,14 +60,14 @@ handed_same version setup credential greeting api round begun held p b went d =
 scram_accepted : (version : ScramVersion) (setup : Setup) (credential : Credential) (greeting : Greeting) (buffer : FrameBuffer) (old new : Checkpoint) → Accepted (scram_handed_by version setup credential greeting) buffer old new → Conversed (Scram version) setup credential greeting old new
 unfolding conversation_plan
 scram_accepted version setup credential greeting buffer old new is = record {
-  reached = then_reached (scram_plan (scram_handed_by version setup credential greeting)) is.challenge greeting old.state new.state old.id new.id (accepted_reached (scram_handed_by version setup credential greeting) buffer old new is);
+  reached = then_reached (scram_plan (scram_handed_by version setup credential greeting)) is.challenge greeting old.point.state new.point.state old.point.id new.point.id (accepted_reached (scram_handed_by version setup credential greeting) buffer old new is);
   costs = record { buffer = buffer; accepted = is };
 }
 
 scram_stopped : (version : ScramVersion) (setup : Setup) (credential : Credential) (greeting : Greeting) (kind : ErrorKind) (kept : Option ErrorKind) (old new : Checkpoint) → StopsScram (scram_handed_by version setup credential greeting) kind kept old new → ConversationStopped (Scram version) setup credential greeting kind kept old new
 unfolding conversation_plan
 scram_stopped version setup credential greeting kind kept old new is = record {
-  stopped = then_stopped (scram_plan (scram_handed_by version setup credential greeting)) greeting kind old.state new.state old.id new.id is.1;
+  stopped = then_stopped (scram_plan (scram_handed_by version setup credential greeting)) greeting kind old.point.state new.point.state old.point.id new.point.id is.1;
   costs = is.0;
 }
 
@@ -83,7 +83,7 @@ module _ (version : ScramVersion) (setup : Setup) (credential : Credential) (rou
   scram_done greeting (Err e) buffer old new described went accepted = tt
 
   scram_failed : (greeting : Greeting) (r : Result (Unit {0}) Error) (old new : Checkpoint) → opened.stream_description ≡ Some greeting.description → IsRoundBy (Some (Scram version)) credential setup greeting round
-      → IfErr r (λ e. StoppedScram handed e.kind old new) → IfErr r (λ e. StoppedKeeping (scram_plan handed) e.kind old.state new.state old.id new.id (kept_fault left)) → IfErr r (λ e. ConversationStopped (Scram version) setup credential greeting e.kind (kept_fault left) old new)
+      → IfErr r (λ e. StoppedScram handed e.kind old new) → IfErr r (λ e. StoppedKeeping (scram_plan handed) e.kind old.point new.point (kept_fault left)) → IfErr r (λ e. ConversationStopped (Scram version) setup credential greeting e.kind (kept_fault left) old new)
   scram_failed greeting (Ok done) old new described went costs stopped = tt
   scram_failed greeting (Err e) old new described went costs stopped =
       let is = handed_same version setup credential greeting api round begun opened.stream_description same begins went described in
@@ -91,7 +91,7 @@ module _ (version : ScramVersion) (setup : Setup) (credential : Credential) (rou
 
   -- what a login by SCRAM promises is what its conversation does
   pub scram_converses : {L : Type 0} (state : L → State) (link link' : L) (before after : ℤ) (buffer buffer' : FrameBuffer) (r : Result (Unit {0}) Error) (early late : Ledgers) → kept_fault opened ≡ None
-      → EndsByScram state handed r (standing opened link before buffer) (standing left link' after buffer') early late → Converses r (Scram version) setup credential round opened left (checkpoint (state link) before early) (checkpoint (state link') after late)
+      → EndsByScram state handed r (standing opened link before buffer) (standing left link' after buffer') early late → Converses r (Scram version) setup credential round opened left (checkpoint (point (state link) before) early) (checkpoint (point (state link') after) late)
   scram_converses state link link' before after buffer buffer' r early late faultless login = record {
     accepted = λ greeting described went. scram_done greeting r buffer' _ _ described went login.accepted;
     refused = λ greeting described went. scram_failed greeting r _ _ described went (login.refused faultless) (login.script.stops.refused faultless);
@@ -111,27 +111,27 @@ IsPartBy plan conversation setup credential held round =
 
 module _ (own conversation : Conversation) (is : conversation ≡ own) (free : scram_in (Some own) ≡ None) (setup : Setup) (credential : Credential) (round : Option AnsweredRound) (opened left : Connection) {A : Type 0} (plan : Plan A) (part : IsPartBy plan own setup credential opened.stream_description round) where
   free_done : (greeting : Greeting) (r : Result (Unit {0}) Error) (old new : Checkpoint) → CostsNothing old.ledgers new.ledgers → opened.stream_description ≡ Some greeting.description → IsRoundBy (Some own) credential setup greeting round
-      → OnOk r ((answer : A) × Reached plan answer old.state new.state old.id new.id) → OnOk r (Conversed own setup credential greeting old new)
+      → OnOk r ((answer : A) × Reached plan answer old.point new.point) → OnOk r (Conversed own setup credential greeting old new)
   free_done greeting (Ok done) old new nothing described went reached = record {
-    reached = reached_more (followed plan greeting) (conversation_plan own setup credential greeting) greeting old.state new.state old.id new.id (part greeting described went) (then_reached plan reached.0 greeting old.state new.state old.id new.id reached.1);
+    reached = reached_more (followed plan greeting) (conversation_plan own setup credential greeting) greeting old.point.state new.point.state old.point.id new.point.id (part greeting described went) (then_reached plan reached.0 greeting old.point.state new.point.state old.point.id new.point.id reached.1);
     costs = subst (λ version. AcceptedCosts version setup credential greeting old new) (sym free) nothing;
   }
   free_done greeting (Err e) old new nothing described went reached = tt
 
   free_failed : (greeting : Greeting) (r : Result (Unit {0}) Error) (old new : Checkpoint) → CostsNothing old.ledgers new.ledgers → opened.stream_description ≡ Some greeting.description → IsRoundBy (Some own) credential setup greeting round
-      → IfErr r (λ e. StoppedKeeping plan e.kind old.state new.state old.id new.id (kept_fault left)) → IfErr r (λ e. ConversationStopped own setup credential greeting e.kind (kept_fault left) old new)
+      → IfErr r (λ e. StoppedKeeping plan e.kind old.point new.point (kept_fault left)) → IfErr r (λ e. ConversationStopped own setup credential greeting e.kind (kept_fault left) old new)
   free_failed greeting (Ok done) old new nothing described went stopped = tt
   free_failed greeting (Err e) old new nothing described went stopped = record {
-    stopped = stopped_more (followed plan greeting) (conversation_plan own setup credential greeting) e.kind old.state new.state old.id new.id (part greeting described went) (then_stopped plan greeting e.kind old.state new.state old.id new.id stopped);
+    stopped = stopped_more (followed plan greeting) (conversation_plan own setup credential greeting) e.kind old.point.state new.point.state old.point.id new.point.id (part greeting described went) (then_stopped plan greeting e.kind old.point.state new.point.state old.point.id new.point.id stopped);
     costs = subst (λ version. StoppedCosts version setup credential greeting e.kind old new) (sym free) nothing;
   }
 
   -- what a login that costs nothing promises is what its conversation does
   pub free_converses : {L : Type 0} (state : L → State) (IsLogin : List (List ℕ) → List (List ℕ) → Type 0) (maximum : ℤ) (link link' : L) (before after : ℤ) (buffer buffer' : FrameBuffer) (r : Result (Unit {0}) Error) (ledgers : Ledgers) → CostsNothing ledgers ledgers → kept_fault opened ≡ None
-      → EndsByScript state plan IsLogin maximum r (standing opened link before buffer) (standing left link' after buffer') → Converses r conversation setup credential round opened left (checkpoint (state link) before ledgers) (checkpoint (state link') after ledgers)
+      → EndsByScript state plan IsLogin maximum r (standing opened link before buffer) (standing left link' after buffer') → Converses r conversation setup credential round opened left (checkpoint (point (state link) before) ledgers) (checkpoint (point (state link') after) ledgers)
   free_converses state IsLogin maximum link link' before after buffer buffer' r ledgers nothing faultless login =
-      let old = checkpoint (state link) before ledgers in
-      let new = checkpoint (state link') after ledgers in
+      let old = checkpoint (point (state link) before) ledgers in
+      let new = checkpoint (point (state link') after) ledgers in
       let answered : Converses r own setup credential round opened left old new = record {
         accepted = λ greeting described went. free_done greeting r old new nothing described went login.accepted;
         refused = λ greeting described went. free_failed greeting r old new nothing described went (login.stops.refused faultless);

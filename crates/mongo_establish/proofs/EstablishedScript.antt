@@ -3,6 +3,7 @@ use Rattle.std.proofs.Common.{◌≡◌, ℕ, ℤ, ◌∙◌, append-nil, append
 use Rattle.mongo_wire.specs.Outside.{State}
 use Rattle.mongo_wire.specs.Bytes.{IsSent, IsWhole, next_id, id_after_all}
 use Rattle.mongo_command.specs.Conversation.{Said, Event, exchanged, ends, Plan, said_in, given_in, IsSaid, IsHeard, IsFlushedAfter, Reached, Leads}
+use Rattle.mongo_command.specs.Exchange.{point}
 use Rattle.mongo_command.proofs.Ends.{PlanEnds}
 use Rattle.mongo_command.proofs.FollowedBy.{reached_both}
 use Rattle.mongo_command.proofs.Leads.{told_taken}
@@ -21,7 +22,7 @@ use Rattle.mongo_establish.proofs.EstablishmentPlan.{IsEstablished, handshake_en
 -- ---- what was made
 
 -- a hello and a login that were followed to their ends are a handshake
-pub handshake_reached : (setup : Setup) (greeting : Greeting) (old middle new : State) (between after : ℤ) → Reached (hello_plan setup) greeting old middle setup.first_id between → Reached (login_plan setup greeting) greeting middle new between after → Reached (handshake_plan setup) greeting old new setup.first_id after
+pub handshake_reached : (setup : Setup) (greeting : Greeting) (old middle new : State) (between after : ℤ) → Reached (hello_plan setup) greeting (point old setup.first_id) (point middle between) → Reached (login_plan setup greeting) greeting (point middle between) (point new after) → Reached (handshake_plan setup) greeting (point old setup.first_id) (point new after)
 unfolding handshake_plan
 handshake_reached setup greeting old middle new between after hello login = reached_both (hello_plan setup) (login_plan setup) greeting greeting old middle new setup.first_id between after hello login
 
@@ -53,10 +54,10 @@ script_heard setup events greeting e bytes heard =
     (first.0, first.1, first.2, first.3, first.4, first.5, first.6, within_heard (greeted_maximum greeting) e.more first.1 e.within first.7)
 
 -- of a handshake that was followed to its end
-pub ended_by : (setup : Setup) (greeting : Greeting) (old new : State) (after : ℤ) (r : Reached (handshake_plan setup) greeting old new setup.first_id after) → NamesService setup.pending.generation greeting.description → IsEstablished setup r.events greeting
+pub ended_by : (setup : Setup) (greeting : Greeting) (old new : State) (after : ℤ) (r : Reached (handshake_plan setup) greeting (point old setup.first_id) (point new after)) → NamesService setup.pending.generation greeting.description → IsEstablished setup r.events greeting
 ended_by setup greeting old new after r named = handshake_ended setup r.events greeting (record { follows = r.talked.follows; answer_is = r.answer_is }) named
 
-abbrev pub script_by : (setup : Setup) (greeting : Greeting) (old new : State) (after : ℤ) → Reached (handshake_plan setup) greeting old new setup.first_id after → NamesService setup.pending.generation greeting.description → Script
+abbrev pub script_by : (setup : Setup) (greeting : Greeting) (old new : State) (after : ℤ) → Reached (handshake_plan setup) greeting (point old setup.first_id) (point new after) → NamesService setup.pending.generation greeting.description → Script
 script_by setup greeting old new after r named = script_of setup r.events greeting (ended_by setup greeting old new after r named)
 
 -- the ids that a login's commands draw
@@ -64,7 +65,7 @@ within_ids : (said : List Said) (id : ℤ) → id_after_all said id ≡ id_after
 within_ids [] id = refl
 within_ids (s ∷ said) id = within_ids said (next_id id)
 
-pub scripted_by : (setup : Setup) (greeting : Greeting) (old new : State) (after : ℤ) (r : Reached (handshake_plan setup) greeting old new setup.first_id after) (named : NamesService setup.pending.generation greeting.description) → Scripted setup (script_by setup greeting old new after r named) old new after
+pub scripted_by : (setup : Setup) (greeting : Greeting) (old new : State) (after : ℤ) (r : Reached (handshake_plan setup) greeting (point old setup.first_id) (point new after)) (named : NamesService setup.pending.generation greeting.description) → Scripted setup (script_by setup greeting old new after r named) old new after
 scripted_by setup greeting old new after r named =
     let t = r.talked in
     let e = ended_by setup greeting old new after r named in

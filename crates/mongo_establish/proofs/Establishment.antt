@@ -6,6 +6,7 @@ use Rattle.mongo_wire.specs.Outside.{State, Unfailed}
 use Rattle.mongo_command.specs.declared.connection.Connection.{Connection}
 use Rattle.mongo_command.specs.Connection.{kept_fault}
 use Rattle.mongo_command.specs.Conversation.{Said, Turn, refuses, ends, HasOneTurn, Plan, IsSaid, Reached, Stopped, Leads, LeftBy}
+use Rattle.mongo_command.specs.Exchange.{point}
 use Rattle.mongo_command.proofs.FollowedBy.{stopped_first, stopped_second}
 use Rattle.mongo_command.proofs.Steps.{stopped_row}
 use Rattle.mongo_command.proofs.OneSaid.{one_said}
@@ -28,48 +29,48 @@ use Rattle.mongo_establish.proofs.EstablishedScript.{handshake_reached, script_l
 -- ---- what was stopped
 
 -- a hello that was stopped is a handshake that was
-hello_stops : (setup : Setup) (kind : ErrorKind) (old new : State) (after : ℤ) → Stopped (hello_plan setup) kind old new setup.first_id after → Stopped (handshake_plan setup) kind old new setup.first_id after
+hello_stops : (setup : Setup) (kind : ErrorKind) (old new : State) (after : ℤ) → Stopped (hello_plan setup) kind (point old setup.first_id) (point new after) → Stopped (handshake_plan setup) kind (point old setup.first_id) (point new after)
 unfolding handshake_plan
 hello_stops setup kind old new after s = (s.0, stopped_first (hello_plan setup) (login_plan setup) kind old new setup.first_id after s.1)
 
 -- and so is a login after its hello
-login_stops : (setup : Setup) (greeting : Greeting) (kind : ErrorKind) (old middle new : State) (between after : ℤ) → Reached (hello_plan setup) greeting old middle setup.first_id between → Stopped (login_plan setup greeting) kind middle new between after → Stopped (handshake_plan setup) kind old new setup.first_id after
+login_stops : (setup : Setup) (greeting : Greeting) (kind : ErrorKind) (old middle new : State) (between after : ℤ) → Reached (hello_plan setup) greeting (point old setup.first_id) (point middle between) → Stopped (login_plan setup greeting) kind (point middle between) (point new after) → Stopped (handshake_plan setup) kind (point old setup.first_id) (point new after)
 unfolding handshake_plan
 login_stops setup greeting kind old middle new between after hello s = (s.0, stopped_second (hello_plan setup) (login_plan setup) greeting kind old middle new setup.first_id between after hello s.1)
 
 -- whatever part of a handshake was stopped
-pub shaking_stops : (setup : Setup) (opened connection : Connection) (kind : ErrorKind) (old new : State) (after : ℤ) (first last : Ledgers) → StoppedHandshake setup opened connection kind (start_of setup old first) (checkpoint new after last) → Stopped (handshake_plan setup) kind old new setup.first_id after
+pub shaking_stops : (setup : Setup) (opened connection : Connection) (kind : ErrorKind) (old new : State) (after : ℤ) (first last : Ledgers) → StoppedHandshake setup opened connection kind (start_of setup old first) (checkpoint (point new after) last) → Stopped (handshake_plan setup) kind (point old setup.first_id) (point new after)
 shaking_stops setup opened connection kind old new after first last s =
     elim s [
       | inl h ↦ hello_stops setup kind old new after (kept_fault connection, h.hello)
-      | inr l ↦ login_stops setup l.greeting kind old l.middle new l.between after l.hello (kept_fault connection, l.login)
+      | inr l ↦ login_stops setup l.greeting kind old l.middle.state new l.middle.id after l.hello (kept_fault connection, l.login)
     ]
 
 -- the establishment was stopped with its handshake
-pub handshake_stops : (setup : Setup) (kind : ErrorKind) (old new : State) (after : ℤ) → Stopped (handshake_plan setup) kind old new setup.first_id after → Stopped (establishment_plan setup) kind old new setup.first_id after
+pub handshake_stops : (setup : Setup) (kind : ErrorKind) (old new : State) (after : ℤ) → Stopped (handshake_plan setup) kind (point old setup.first_id) (point new after) → Stopped (establishment_plan setup) kind (point old setup.first_id) (point new after)
 unfolding establishment_plan
 handshake_stops setup kind old new after s = (s.0, stopped_first (handshake_plan setup) (service_plan setup) kind old new setup.first_id after s.1)
 
 -- or at its end
-service_stops : (setup : Setup) (greeting : Greeting) (kind : ErrorKind) (old middle new : State) (between after : ℤ) (first last : Ledgers) → Reached (hello_plan setup) greeting old middle setup.first_id between → UnnamedAfterLogin setup greeting kind (checkpoint middle between first) (checkpoint new after last)
-    → Stopped (establishment_plan setup) kind old new setup.first_id after
+service_stops : (setup : Setup) (greeting : Greeting) (kind : ErrorKind) (old middle new : State) (between after : ℤ) (first last : Ledgers) → Reached (hello_plan setup) greeting (point old setup.first_id) (point middle between) → UnnamedAfterLogin setup greeting kind (checkpoint (point middle between) first) (checkpoint (point new after) last)
+    → Stopped (establishment_plan setup) kind (point old setup.first_id) (point new after)
 unfolding establishment_plan
 service_stops setup greeting kind old middle new between after first last hello u =
     (None, stopped_second (handshake_plan setup) (service_plan setup) greeting kind old new new setup.first_id after after (handshake_reached setup greeting old middle new between after hello u.login) (stopped_row _ _ kind new after u.unnamed))
 
 -- whatever part of an establishment was stopped
-pub stopped_whole : (phase : HandshakePhase) (setup : Setup) (kind : ErrorKind) (old new : State) (after : ℤ) (first last : Ledgers) → StoppedIn phase setup kind (start_of setup old first) (checkpoint new after last) → Stopped (establishment_plan setup) kind old new setup.first_id after
+pub stopped_whole : (phase : HandshakePhase) (setup : Setup) (kind : ErrorKind) (old new : State) (after : ℤ) (first last : Ledgers) → StoppedIn phase setup kind (start_of setup old first) (checkpoint (point new after) last) → Stopped (establishment_plan setup) kind (point old setup.first_id) (point new after)
 stopped_whole (PreHello generation) setup kind old new after first last r = handshake_stops setup kind old new after (hello_stops setup kind old new after r.1)
 stopped_whole (PostHello generation) setup kind old new after first last r =
     elim r.stopped [
-      | inl s ↦ handshake_stops setup kind old new after (login_stops setup r.greeting kind old r.middle new r.between after r.hello s.login)
-      | inr u ↦ service_stops setup r.greeting kind old r.middle new r.between after first last r.hello u
+      | inl s ↦ handshake_stops setup kind old new after (login_stops setup r.greeting kind old r.middle.state new r.middle.id after r.hello s.login)
+      | inr u ↦ service_stops setup r.greeting kind old r.middle.state new r.middle.id after first last r.hello u
     ]
 
 -- ---- what an answer says, where the link doesn't fail
 
 -- over bytes left that begin with a script's replies, only memory is wanted
-pub establishment_only_memory : {T E : Type 0} (answer : Result T E) (kind_of : E → ErrorKind) (setup : Setup) (old new : State) (after : ℤ) → IfErr answer (λ e. Stopped (establishment_plan setup) (kind_of e) old new setup.first_id after)
+pub establishment_only_memory : {T E : Type 0} (answer : Result T E) (kind_of : E → ErrorKind) (setup : Setup) (old new : State) (after : ℤ) → IfErr answer (λ e. Stopped (establishment_plan setup) (kind_of e) (point old setup.first_id) (point new after))
     → (bytes : List ℕ) → old.left ≡ Some bytes → HasScript setup bytes → Unfailed old new → IfErr answer (λ e. kind_of e ≡ OutOfMemory)
 establishment_only_memory (Ok x) kind_of setup old new after stops bytes is script unfailed = tt
 establishment_only_memory (Err e) kind_of setup old new after stops bytes is script unfailed =
@@ -80,9 +81,9 @@ establishment_only_memory (Err e) kind_of setup old new after stops bytes is scr
     ]
 
 -- over bytes left that lead a plan to an outcome, only that is refused, and the link is left as it says
-pub only_refused : {T E : Type 0} (answer : Result T E) (kind_of : E → ErrorKind) (plan : Plan Greeting) (old new : State) (before after : ℤ) → HasOneTurn plan → IfErr answer (λ e. Stopped plan (kind_of e) old new before after)
+pub only_refused : {T E : Type 0} (answer : Result T E) (kind_of : E → ErrorKind) (plan : Plan Greeting) (old new : State) (before after : ℤ) → HasOneTurn plan → IfErr answer (λ e. Stopped plan (kind_of e) (point old before) (point new after))
     → (bytes taken unread : List ℕ) (outcome : Turn Greeting) (commands : List Said) → old.left ≡ Some bytes → Leads plan bytes outcome commands taken unread → Unfailed old new
-    → IfErr answer (λ e. (kind_of e ≡ OutOfMemory) ⊎ ((outcome ≡ refuses (kind_of e)) × LeftBy commands unread old new before after))
+    → IfErr answer (λ e. (kind_of e ≡ OutOfMemory) ⊎ ((outcome ≡ refuses (kind_of e)) × LeftBy commands unread (point old before) (point new after)))
 only_refused (Ok x) kind_of plan old new before after one stops bytes taken unread outcome commands is leads unfailed = tt
 only_refused (Err e) kind_of plan old new before after one stops bytes taken unread outcome commands is leads unfailed =
     only_refusal plan (kind_of e) outcome old new before after bytes commands taken unread one stops is leads unfailed
@@ -94,15 +95,15 @@ pub record RefusedBy (phase : HandshakePhase) (setup : Setup) (bytes : List ℕ)
   pub kind_is : refusal.kind ≡ kind
   pub is_refusal : IsRefusal setup bytes refusal
   pub joined : bytes ≡ refusal.taken ++ refusal.unread
-  pub left_by : LeftBy refusal.commands refusal.unread old new setup.first_id after
+  pub left_by : LeftBy refusal.commands refusal.unread (point old setup.first_id) (point new after)
 
-past_hello : (generation : ConnectionGeneration) (setup : Setup) (kind : ErrorKind) (old new : State) (after : ℤ) (first last : Ledgers) (bytes : List ℕ) → StoppedAfterHello setup generation kind (start_of setup old first) (checkpoint new after last) → old.left ≡ Some bytes → LeadsPastHello setup bytes generation
+past_hello : (generation : ConnectionGeneration) (setup : Setup) (kind : ErrorKind) (old new : State) (after : ℤ) (first last : Ledgers) (bytes : List ℕ) → StoppedAfterHello setup generation kind (start_of setup old first) (checkpoint (point new after) last) → old.left ≡ Some bytes → LeadsPastHello setup bytes generation
 past_hello generation setup kind old new after first last bytes r is =
-    let l = reached_led (hello_plan setup) r.greeting old r.middle setup.first_id r.between bytes r.hello is in
+    let l = reached_led (hello_plan setup) r.greeting old r.middle.state setup.first_id r.middle.id bytes r.hello is in
     record { greeting = r.greeting; commands = l.commands; taken = l.taken; unread = l.unread; leads = l.leads; generation_is = r.generation_is }
 
 -- where the link didn't fail, memory was wanted or the bytes lead to the refusal
-pub stopped_refusal : (phase : HandshakePhase) (setup : Setup) (kind : ErrorKind) (old new : State) (after : ℤ) (first last : Ledgers) (bytes : List ℕ) → StoppedIn phase setup kind (start_of setup old first) (checkpoint new after last) → old.left ≡ Some bytes → Unfailed old new
+pub stopped_refusal : (phase : HandshakePhase) (setup : Setup) (kind : ErrorKind) (old new : State) (after : ℤ) (first last : Ledgers) (bytes : List ℕ) → StoppedIn phase setup kind (start_of setup old first) (checkpoint (point new after) last) → old.left ≡ Some bytes → Unfailed old new
     → (kind ≡ OutOfMemory) ⊎ RefusedBy phase setup bytes kind old new after
 stopped_refusal (PreHello generation) setup kind old new after first last bytes r is unfailed =
     elim (stopped_led (hello_plan setup) kind old new setup.first_id after bytes r.1.1 is unfailed) [

@@ -8,6 +8,7 @@ use Rattle.mongo_command.specs.declared.hello.HelloReply.{HelloReply}
 use Rattle.mongo_command.specs.declared.server_address.ServerAddress.{ServerAddress}
 use Rattle.mongo_command.specs.Connection.{kept_fault}
 use Rattle.mongo_command.specs.Conversation.{Plan, unless, saying, Reached, Stopped}
+use Rattle.mongo_command.specs.Exchange.{point}
 use Rattle.mongo_sasl.specs.declared.credential.Credential.{Credential}
 use Rattle.mongo_scram.specs.Costs.{Ledgers, checkpoint}
 use Rattle.mongo_establish.specs.declared.establisher.EstablishError.{EstablishError}
@@ -52,39 +53,38 @@ module _ (pending : PendingConnection) (options : HandshakerOptions) (credential
   abbrev over : Setup
   over = setup_over opened options credential nonces id
 
-  pub hello_reached : (greeting : Greeting) (old new : State) (before after : ℤ) → Reached (hello_plan over) greeting old new before after → Reached (hello_plan wanted) greeting old new before after
+  pub hello_reached : (greeting : Greeting) (old new : State) (before after : ℤ) → Reached (hello_plan over) greeting (point old before) (point new after) → Reached (hello_plan wanted) greeting (point old before) (point new after)
   unfolding hello_plan
-  hello_reached greeting old new before after r = subst (λ address. Reached (hello_at wanted address) greeting old new before after) same r
+  hello_reached greeting old new before after r = subst (λ address. Reached (hello_at wanted address) greeting (point old before) (point new after)) same r
 
-  pub hello_stopped : (kind : ErrorKind) (old new : State) (before after : ℤ) → Stopped (hello_plan over) kind old new before after → Stopped (hello_plan wanted) kind old new before after
+  pub hello_stopped : (kind : ErrorKind) (old new : State) (before after : ℤ) → Stopped (hello_plan over) kind (point old before) (point new after) → Stopped (hello_plan wanted) kind (point old before) (point new after)
   unfolding hello_plan
-  hello_stopped kind old new before after s = subst (λ address. Stopped (hello_at wanted address) kind old new before after) same s
+  hello_stopped kind old new before after s = subst (λ address. Stopped (hello_at wanted address) kind (point old before) (point new after)) same s
 
-  login_reached : (greeting : Greeting) (old new : State) (before after : ℤ) → Reached (login_plan over greeting) greeting old new before after → Reached (login_plan wanted greeting) greeting old new before after
+  login_reached : (greeting : Greeting) (old new : State) (before after : ℤ) → Reached (login_plan over greeting) greeting (point old before) (point new after) → Reached (login_plan wanted greeting) greeting (point old before) (point new after)
   login_reached = reached_alike (pending_over opened) pending options credential nonces id id
 
   -- ---- a handshake that was followed to its end
 
-  handshake_wanted : (connection : Connection) (old new : State) (after : ℤ) (first last : Ledgers) (reply : HelloReply) (s : ShookHands over opened connection (start_of over old first) (checkpoint new after last) reply) → Reached (handshake_plan wanted) s.script.greeting old new id after
+  handshake_wanted : (connection : Connection) (old new : State) (after : ℤ) (first last : Ledgers) (reply : HelloReply) (s : ShookHands over opened connection (start_of over old first) (checkpoint (point new after) last) reply) → Reached (handshake_plan wanted) s.script.greeting (point old id) (point new after)
   handshake_wanted connection old new after first last reply s =
       let greeting = s.script.greeting in
-      handshake_reached wanted greeting old s.middle new s.between after (hello_reached greeting old s.middle id s.between s.hello) (login_reached greeting s.middle new s.between after s.login)
+      handshake_reached wanted greeting old s.middle.state new s.middle.id after (hello_reached greeting old s.middle.state id s.middle.id s.hello) (login_reached greeting s.middle.state new s.middle.id after s.login)
 
-  shook_login_costs : (connection : Connection) (old new : State) (after : ℤ) (first last : Ledgers) (reply : HelloReply) (s : ShookHands over opened connection (start_of over old first) (checkpoint new after last) reply) → LoginCosts wanted s.script.greeting (checkpoint s.middle s.between first) (checkpoint new after last)
-  shook_login_costs connection old new after first last reply s = costs_alike (pending_over opened) pending options credential nonces id id s.script.greeting (checkpoint s.middle s.between first) (checkpoint new after last) s.costs
+  shook_login_costs : (connection : Connection) (old new : State) (after : ℤ) (first last : Ledgers) (reply : HelloReply) (s : ShookHands over opened connection (start_of over old first) (checkpoint (point new after) last) reply) → LoginCosts wanted s.script.greeting (checkpoint s.middle first) (checkpoint (point new after) last)
+  shook_login_costs connection old new after first last reply s = costs_alike (pending_over opened) pending options credential nonces id id s.script.greeting (checkpoint s.middle first) (checkpoint (point new after) last) s.costs
 
   -- what was derived and kept
-  pub shook_costs : (connection : Connection) (old new : State) (after : ℤ) (first last : Ledgers) (reply : HelloReply) (s : ShookHands over opened connection (start_of over old first) (checkpoint new after last) reply) → HandshakeCosts wanted s.script.greeting (checkpoint old id first) (checkpoint new after last)
+  pub shook_costs : (connection : Connection) (old new : State) (after : ℤ) (first last : Ledgers) (reply : HelloReply) (s : ShookHands over opened connection (start_of over old first) (checkpoint (point new after) last) reply) → HandshakeCosts wanted s.script.greeting (checkpoint (point old id) first) (checkpoint (point new after) last)
   shook_costs connection old new after first last reply s = record {
     middle = s.middle;
-    between = s.between;
-    hello = hello_reached s.script.greeting old s.middle id s.between s.hello;
+    hello = hello_reached s.script.greeting old s.middle.state id s.middle.id s.hello;
     login = shook_login_costs connection old new after first last reply s;
   }
 
   -- is the connection that is ready for commands, where a service that has to be named is
-  pub established : (connection : Connection) (old new : State) (after : ℤ) (first last : Ledgers) (reply : HelloReply) (pooled : PooledConnection) → opened.id ≡ pending.id → opened.oidc_token_gen_id ≡ 0 → ShookHands over opened connection (start_of over old first) (checkpoint new after last) reply
-      → IsPooled connection pending.generation pooled → Established wanted (start_of wanted old first) (checkpoint new after last) pooled
+  pub established : (connection : Connection) (old new : State) (after : ℤ) (first last : Ledgers) (reply : HelloReply) (pooled : PooledConnection) → opened.id ≡ pending.id → opened.oidc_token_gen_id ≡ 0 → ShookHands over opened connection (start_of over old first) (checkpoint (point new after) last) reply
+      → IsPooled connection pending.generation pooled → Established wanted (start_of wanted old first) (checkpoint (point new after) last) pooled
   established connection old new after first last reply pooled number token s p =
       let greeting = s.script.greeting in
       let description : p.description ≡ greeting.description = same_description p.description greeting.description (sym p.described ∙ s.described.holds.description_is) in
@@ -101,46 +101,44 @@ module _ (pending : PendingConnection) (options : HandshakerOptions) (credential
   -- ---- a handshake that was stopped, and one whose server named no service
 
   late_phase : (phase : HandshakePhase) (description : StreamDescription) (kind : ErrorKind) (old new : State) (after : ℤ) (first last : Ledgers) → phase ≡ PostHello (generation_of pending.generation description)
-      → StoppedAfterHello wanted (generation_of pending.generation description) kind (start_of wanted old first) (checkpoint new after last) → StoppedIn phase wanted kind (start_of wanted old first) (checkpoint new after last)
-  late_phase phase description kind old new after first last is stopped = subst (λ p. StoppedIn p wanted kind (start_of wanted old first) (checkpoint new after last)) (sym is) stopped
+      → StoppedAfterHello wanted (generation_of pending.generation description) kind (start_of wanted old first) (checkpoint (point new after) last) → StoppedIn phase wanted kind (start_of wanted old first) (checkpoint (point new after) last)
+  late_phase phase description kind old new after first last is stopped = subst (λ p. StoppedIn p wanted kind (start_of wanted old first) (checkpoint (point new after) last)) (sym is) stopped
 
-  stopped_hello : (phase : HandshakePhase) (connection : Connection) (kind : ErrorKind) (old new : State) (after : ℤ) (first last : Ledgers) → phase ≡ phase_at connection.stream_description pending.generation → StoppedHello over opened connection kind (start_of over old first) (checkpoint new after last) → StoppedIn phase wanted kind (start_of wanted old first) (checkpoint new after last)
+  stopped_hello : (phase : HandshakePhase) (connection : Connection) (kind : ErrorKind) (old new : State) (after : ℤ) (first last : Ledgers) → phase ≡ phase_at connection.stream_description pending.generation → StoppedHello over opened connection kind (start_of over old first) (checkpoint (point new after) last) → StoppedIn phase wanted kind (start_of wanted old first) (checkpoint (point new after) last)
   stopped_hello phase connection kind old new after first last is s =
       let early : phase ≡ PreHello pending.generation = is ∙ ap (λ d. phase_at d pending.generation) s.undescribed in
-      subst (λ p. StoppedIn p wanted kind (start_of wanted old first) (checkpoint new after last)) (sym early) (refl, hello_stopped kind old new id after (kept_fault connection, s.hello), s.costs)
+      subst (λ p. StoppedIn p wanted kind (start_of wanted old first) (checkpoint (point new after) last)) (sym early) (refl, hello_stopped kind old new id after (kept_fault connection, s.hello), s.costs)
 
-  stopped_login : (phase : HandshakePhase) (connection : Connection) (kind : ErrorKind) (old new : State) (after : ℤ) (first last : Ledgers) → phase ≡ phase_at connection.stream_description pending.generation → StoppedLogin over opened connection kind (start_of over old first) (checkpoint new after last) → StoppedIn phase wanted kind (start_of wanted old first) (checkpoint new after last)
+  stopped_login : (phase : HandshakePhase) (connection : Connection) (kind : ErrorKind) (old new : State) (after : ℤ) (first last : Ledgers) → phase ≡ phase_at connection.stream_description pending.generation → StoppedLogin over opened connection kind (start_of over old first) (checkpoint (point new after) last) → StoppedIn phase wanted kind (start_of wanted old first) (checkpoint (point new after) last)
   stopped_login phase connection kind old new after first last is s =
       late_phase phase s.greeting.description kind old new after first last (is ∙ ap (λ d. phase_at d pending.generation) s.held.description_is) (record {
         greeting = s.greeting;
         middle = s.middle;
-        between = s.between;
-        hello = hello_reached s.greeting old s.middle id s.between s.hello;
+        hello = hello_reached s.greeting old s.middle.state id s.middle.id s.hello;
         generation_is = refl;
         stopped = inl (record {
-          login = (kept_fault connection, stopped_alike (pending_over opened) pending options credential nonces id id s.greeting kind s.middle new s.between after s.login);
-          costs = stopped_login_costs_alike (pending_over opened) pending options credential nonces id id s.greeting kind (checkpoint s.middle s.between first) (checkpoint new after last) s.costs;
+          login = (kept_fault connection, stopped_alike (pending_over opened) pending options credential nonces id id s.greeting kind s.middle.state new s.middle.id after s.login);
+          costs = stopped_login_costs_alike (pending_over opened) pending options credential nonces id id s.greeting kind (checkpoint s.middle first) (checkpoint (point new after) last) s.costs;
         });
       })
 
   -- the phase is what the connection's description says
-  pub stopped_in : (phase : HandshakePhase) (connection : Connection) (kind : ErrorKind) (old new : State) (after : ℤ) (first last : Ledgers) → phase ≡ phase_at connection.stream_description pending.generation → StoppedHandshake over opened connection kind (start_of over old first) (checkpoint new after last) → StoppedIn phase wanted kind (start_of wanted old first) (checkpoint new after last)
+  pub stopped_in : (phase : HandshakePhase) (connection : Connection) (kind : ErrorKind) (old new : State) (after : ℤ) (first last : Ledgers) → phase ≡ phase_at connection.stream_description pending.generation → StoppedHandshake over opened connection kind (start_of over old first) (checkpoint (point new after) last) → StoppedIn phase wanted kind (start_of wanted old first) (checkpoint (point new after) last)
   stopped_in phase connection kind old new after first last is s =
       elim s [ inl h ↦ stopped_hello phase connection kind old new after first last is h | inr l ↦ stopped_login phase connection kind old new after first last is l ]
 
-  pub unnamed_stopped : (connection : Connection) (old new : State) (after : ℤ) (first last : Ledgers) (reply : HelloReply) (e : EstablishError) → ShookHands over opened connection (start_of over old first) (checkpoint new after last) reply → UnnamedService connection pending.generation e
-      → StoppedIn e.handshake_phase wanted e.cause.kind (start_of wanted old first) (checkpoint new after last)
+  pub unnamed_stopped : (connection : Connection) (old new : State) (after : ℤ) (first last : Ledgers) (reply : HelloReply) (e : EstablishError) → ShookHands over opened connection (start_of over old first) (checkpoint (point new after) last) reply → UnnamedService connection pending.generation e
+      → StoppedIn e.handshake_phase wanted e.cause.kind (start_of wanted old first) (checkpoint (point new after) last)
   unnamed_stopped connection old new after first last reply e s u =
       let description : u.description ≡ s.script.greeting.description = same_description u.description s.script.greeting.description (sym u.described ∙ s.described.holds.description_is) in
       let unnamed : NoService pending.generation s.script.greeting.description e.cause.kind = (u.kind_is, subst (λ d. NamesService pending.generation d → ⊥) description u.unnamed) in
       late_phase e.handshake_phase s.script.greeting.description e.cause.kind old new after first last (u.phase_is ∙ ap (λ d. PostHello (generation_of pending.generation d)) description) (record {
         greeting = s.script.greeting;
         middle = s.middle;
-        between = s.between;
-        hello = hello_reached s.script.greeting old s.middle id s.between s.hello;
+        hello = hello_reached s.script.greeting old s.middle.state id s.middle.id s.hello;
         generation_is = refl;
         stopped = inr (record {
-          login = login_reached s.script.greeting s.middle new s.between after s.login;
+          login = login_reached s.script.greeting s.middle.state new s.middle.id after s.login;
           costs = shook_login_costs connection old new after first last reply s;
           unnamed = unnamed;
         });

@@ -13,7 +13,7 @@ use Rattle.mongo_command.specs.declared.stream_description.StreamDescription.{St
 use Rattle.mongo_command.specs.Command.{command_document}
 use Rattle.mongo_command.specs.Connection.{kept_fault, KeepsRest}
 use Rattle.mongo_command.specs.Conversation.{Plan, AreMet, Reached, StoppedKeeping, plain_message}
-use Rattle.mongo_command.specs.Exchange.{command_message, frame_maximum, CountsStay, DocumentRefused}
+use Rattle.mongo_command.specs.Exchange.{command_message, frame_maximum, CountsStay, DocumentRefused, point}
 use Rattle.mongo_command.specs.Hello.{IsHelloResponse, HelloRefused, description_demands, DescriptionRefused, description_of}
 use Rattle.mongo_command.specs.HelloExchange.{RunsHello, RunHelloRefused}
 use Rattle.mongo_command.proofs.Rest.{keeps_all}
@@ -46,7 +46,7 @@ no_description address kind reply reads (inl row) =
 no_description address kind reply reads (inr memory) = inr (inl memory)
 
 -- one that describes
-describes : (address : ServerAddress) (reply : HelloReply) (new : State) (after : ℤ) → IsHelloResponse reply.raw_command_response reply.command_response reply.cluster_time → AreMet (description_demands reply.command_response) → Reached (after_hello address reply.raw_command_response) (greeting_in address reply) new new after after
+describes : (address : ServerAddress) (reply : HelloReply) (new : State) (after : ℤ) → IsHelloResponse reply.raw_command_response reply.command_response reply.cluster_time → AreMet (description_demands reply.command_response) → Reached (after_hello address reply.raw_command_response) (greeting_in address reply) (point new after) (point new after)
 unfolding greeting_in
 describes address reply new after reads taken =
     let document = reply.raw_command_response in
@@ -68,12 +68,12 @@ module _ (options : HandshakerOptions) (credential : Option Credential) (login :
   abbrev message : Message
   message = plain_message (command_document (hello_with options credential login))
 
-  ungreeted : (connection : Connection) (kind : ErrorKind) (old new : State) (before after : ℤ) → KeepsRest opened connection → StoppedKeeping plan kind old new before after (kept_fault connection) → UngreetedBy options credential login kind (footing opened old before) (footing connection new after)
+  ungreeted : (connection : Connection) (kind : ErrorKind) (old new : State) (before after : ℤ) → KeepsRest opened connection → StoppedKeeping plan kind (point old before) (point new after) (kept_fault connection) → UngreetedBy options credential login kind (footing opened old before) (footing connection new after)
   ungreeted connection kind old new before after rest stopped = record { stopped = stopped; undescribed = rest.description ∙ fresh; rest = rest }
 
   -- one that leaves no fault
-  still : (connection : Connection) (kind : ErrorKind) (old new : State) (before after : ℤ) → kept_fault connection ≡ None → StoppedKeeping plan kind old new before after None → StoppedKeeping plan kind old new before after (kept_fault connection)
-  still connection kind old new before after faultless stopped = subst (StoppedKeeping plan kind old new before after) (sym faultless) stopped
+  still : (connection : Connection) (kind : ErrorKind) (old new : State) (before after : ℤ) → kept_fault connection ≡ None → StoppedKeeping plan kind (point old before) (point new after) None → StoppedKeeping plan kind (point old before) (point new after) (kept_fault connection)
+  still connection kind old new before after faultless stopped = subst (StoppedKeeping plan kind (point old before) (point new after)) (sym faultless) stopped
 
   -- its body would be too long, or memory ran out
   pub unbuilt : (kind : ErrorKind) → DocumentRefused kind (hello_with options credential login).body → RefusedAtOnce plan kind
@@ -87,31 +87,31 @@ module _ (options : HandshakerOptions) (credential : Option Credential) (login :
       ungreeted opened e.kind old old before before (keeps_all opened) (still opened e.kind old old before before faultless (at_once_keeping plan e.kind old before (unbuilt e.kind h)))
 
   module _ (hello : Command) (made : hello ≡ hello_with options credential login) where
-    refused_so : (kind : ErrorKind) (old new : State) (before after : ℤ) (kept : Option ErrorKind) → RunHelloRefused kind (frame_maximum opened.stream_description) (command_message hello) old new before after kept → RunHelloRefused kind first_maximum message old new before after kept
+    refused_so : (kind : ErrorKind) (old new : State) (before after : ℤ) (kept : Option ErrorKind) → RunHelloRefused kind (frame_maximum opened.stream_description) (command_message hello) (point old before) (point new after) kept → RunHelloRefused kind first_maximum message (point old before) (point new after) kept
     refused_so kind old new before after kept r =
-        subst (λ c. RunHelloRefused kind first_maximum (command_message c) old new before after kept) made
-        (subst (λ most. RunHelloRefused kind most (command_message hello) old new before after kept) (maximum_before opened.stream_description fresh) r)
+        subst (λ c. RunHelloRefused kind first_maximum (command_message c) (point old before) (point new after) kept) made
+        (subst (λ most. RunHelloRefused kind most (command_message hello) (point old before) (point new after) kept) (maximum_before opened.stream_description fresh) r)
 
-    unrun : (kind : ErrorKind) (old new : State) (before after : ℤ) (kept : Option ErrorKind) → CountsStay old new → RunHelloRefused kind first_maximum message old new before after kept → StoppedKeeping plan kind old new before after kept
+    unrun : (kind : ErrorKind) (old new : State) (before after : ℤ) (kept : Option ErrorKind) → CountsStay old new → RunHelloRefused kind first_maximum message (point old before) (point new after) kept → StoppedKeeping plan kind (point old before) (point new after) kept
     unrun kind old new before after kept counts r =
         let said = hello_said_with options credential login in
         elim r [
           | inl x ↦ stopped_saying said (after_hello opened.address) kind old new before after kept x counts
-          | inr n ↦ subst (StoppedKeeping plan kind old new before after) (sym n.kept_is) (refused_later said (after_hello opened.address) n.document kind old new before after n.exchanges counts (no_hello opened.address kind n.document n.refused))
+          | inr n ↦ subst (StoppedKeeping plan kind (point old before) (point new after)) (sym n.kept_is) (refused_later said (after_hello opened.address) n.document kind old new before after n.exchanges counts (no_hello opened.address kind n.document n.refused))
         ]
 
     -- it was refused
     pub unrun_greeting : {T : Type 0} (r : Result T Error) (connection : Connection) (old new : State) (before after : ℤ) → KeepsRest opened connection → CountsStay old new
-        → IfErr r (λ e. RunHelloRefused e.kind (frame_maximum opened.stream_description) (command_message hello) old new before after (kept_fault connection)) → IfErr r (λ e. UngreetedBy options credential login e.kind (footing opened old before) (footing connection new after))
+        → IfErr r (λ e. RunHelloRefused e.kind (frame_maximum opened.stream_description) (command_message hello) (point old before) (point new after) (kept_fault connection)) → IfErr r (λ e. UngreetedBy options credential login e.kind (footing opened old before) (footing connection new after))
     unrun_greeting (Ok x) connection old new before after rest counts h = tt
     unrun_greeting (Err e) connection old new before after rest counts h =
         ungreeted connection e.kind old new before after rest (unrun e.kind old new before after (kept_fault connection) counts (refused_so e.kind old new before after (kept_fault connection) h))
 
-    module _ (old new : State) (before after : ℤ) (reply : HelloReply) (runs : RunsHello (frame_maximum opened.stream_description) (command_message hello) old new before after reply) (counts : CountsStay old new) (ran : Connection) (rest : KeepsRest opened ran) where
-      runs_so : RunsHello first_maximum message old new before after reply
+    module _ (old new : State) (before after : ℤ) (reply : HelloReply) (runs : RunsHello (frame_maximum opened.stream_description) (command_message hello) (point old before) (point new after) reply) (counts : CountsStay old new) (ran : Connection) (rest : KeepsRest opened ran) where
+      runs_so : RunsHello first_maximum message (point old before) (point new after) reply
       runs_so =
-          subst (λ c. RunsHello first_maximum (command_message c) old new before after reply) made
-          (subst (λ most. RunsHello most (command_message hello) old new before after reply) (maximum_before opened.stream_description fresh) runs)
+          subst (λ c. RunsHello first_maximum (command_message c) (point old before) (point new after) reply) made
+          (subst (λ most. RunsHello most (command_message hello) (point old before) (point new after) reply) (maximum_before opened.stream_description fresh) runs)
 
       -- its reply doesn't describe the server
       pub undescribed_greeting : {T : Type 0} (r : Result T Error) (connection : Connection) → connection ≡ ran → kept_fault ran ≡ None → IfErr r (λ e. DescriptionRefused e.kind reply.command_response) → IfErr r (λ e. UngreetedBy options credential login e.kind (footing opened old before) (footing connection new after))

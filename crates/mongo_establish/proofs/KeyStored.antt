@@ -8,6 +8,7 @@ use Rattle.mongo_wire.specs.Outside.{State, Unfailed}
 use Rattle.mongo_command.specs.declared.connection.Connection.{Connection}
 use Rattle.mongo_command.specs.declared.stream_description.StreamDescription.{StreamDescription}
 use Rattle.mongo_command.specs.Conversation.{refuses, ends, HasNone, ending, Reached, Stopped}
+use Rattle.mongo_command.specs.Exchange.{point}
 use Rattle.mongo_command.proofs.FollowedBy.{reached_both, stopped_first}
 use Rattle.mongo_command.proofs.Leads.{reached_led, stopped_led}
 use Rattle.mongo_command.proofs.Steps.{reached_ending, reached_unless, stopped_unless}
@@ -72,14 +73,14 @@ closing_takes handed kind old new is =
     ]
 
 opening_reached : (version : ScramVersion) (mechanism : AuthMechanism) (setup : Setup) (credential : Credential) (greeting : Greeting) (c : Challenge) (old middle : State) (before between : ℤ) → HasNone (InvalidRow (speculative_reply setup greeting) mechanism credential)
-    → Reached (opening (scram_handed_by version setup credential greeting)) c old middle before between → Reached (derivation_by (Some (Scram version)) mechanism setup credential greeting) (Some (key_by (scram_handed_by version setup credential greeting) c)) old middle before between
+    → Reached (opening (scram_handed_by version setup credential greeting)) c (point old before) (point middle between) → Reached (derivation_by (Some (Scram version)) mechanism setup credential greeting) (Some (key_by (scram_handed_by version setup credential greeting) c)) (point old before) (point middle between)
 unfolding derivation_by
 opening_reached version mechanism setup credential greeting c old middle before between none r =
     let handed = scram_handed_by version setup credential greeting in
     reached_unless _ _ (Some (key_by handed c)) old middle before between none (reached_both (opening handed) (λ challenge. ending (Some (key_by handed challenge))) c (Some (key_by handed c)) old middle middle before between between r (reached_ending (Some (key_by handed c)) middle between))
 
 opening_stopped : (version : ScramVersion) (mechanism : AuthMechanism) (setup : Setup) (credential : Credential) (greeting : Greeting) (kind : ErrorKind) (old new : State) (before after : ℤ) → HasNone (InvalidRow (speculative_reply setup greeting) mechanism credential)
-    → Stopped (opening (scram_handed_by version setup credential greeting)) kind old new before after → Stopped (derivation_by (Some (Scram version)) mechanism setup credential greeting) kind old new before after
+    → Stopped (opening (scram_handed_by version setup credential greeting)) kind (point old before) (point new after) → Stopped (derivation_by (Some (Scram version)) mechanism setup credential greeting) kind (point old before) (point new after)
 unfolding derivation_by
 opening_stopped version mechanism setup credential greeting kind old new before after none s =
     let handed = scram_handed_by version setup credential greeting in
@@ -93,20 +94,18 @@ module _ (version : ScramVersion) (mechanism : AuthMechanism) (setup : Setup) (c
   scram_takes buffer old new is = record {
     key = Some (key_by handed is.challenge);
     middle = is.middle;
-    between = is.between;
-    reached = opening_reached version mechanism setup credential greeting is.challenge old.state is.middle old.id is.between none is.opened;
+    reached = opening_reached version mechanism setup credential greeting is.challenge old.point.state is.middle.state old.point.id is.middle.id none is.opened;
     takes = accepted_takes handed buffer old new is;
   }
 
   scram_spends : (kind : ErrorKind) (old new : Checkpoint) → StoppedScram handed kind old new → KeySpent (derivation_by (Some (Scram version)) mechanism setup credential greeting) kind old new
   scram_spends kind old new is =
       elim is [
-        | inl early ↦ inl (record { stopped = opening_stopped version mechanism setup credential greeting kind old.state new.state old.id new.id none early.0; nothing = early.1 })
+        | inl early ↦ inl (record { stopped = opening_stopped version mechanism setup credential greeting kind old.point.state new.point.state old.point.id new.point.id none early.0; nothing = early.1 })
         | inr late ↦ inr (record {
           key = Some (key_by handed late.challenge);
           middle = late.middle;
-          between = late.between;
-          reached = opening_reached version mechanism setup credential greeting late.challenge old.state late.middle old.id late.between none late.opened;
+          reached = opening_reached version mechanism setup credential greeting late.challenge old.point.state late.middle.state old.point.id late.middle.id none late.opened;
           takes = closing_takes handed kind old new late;
         })
       ]
@@ -138,10 +137,10 @@ taken credential reply description mechanism is made scram =
 
 -- without a key
 nothing_taken : (old new : Checkpoint) → CostsNothing old.ledgers new.ledgers → KeyStored (ending None) old new
-nothing_taken old new nothing = record { key = None; middle = old.state; between = old.id; reached = reached_ending None old.state old.id; takes = nothing }
+nothing_taken old new nothing = record { key = None; middle = old.point; reached = reached_ending None old.point.state old.point.id; takes = nothing }
 
 nothing_spent : (kind : ErrorKind) (old new : Checkpoint) → CostsNothing old.ledgers new.ledgers → KeySpent (ending None) kind old new
-nothing_spent kind old new nothing = inr (record { key = None; middle = old.state; between = old.id; reached = reached_ending None old.state old.id; takes = inl nothing })
+nothing_spent kind old new nothing = inr (record { key = None; middle = old.point; reached = reached_ending None old.point.state old.point.id; takes = inl nothing })
 
 key_taken_by : (conversation : Option Conversation) (mechanism : AuthMechanism) (setup : Setup) (credential : Credential) (greeting : Greeting) (old new : Checkpoint) → (IsScram conversation → HasNone (InvalidRow (speculative_reply setup greeting) mechanism credential))
     → AcceptedCosts (scram_in conversation) setup credential greeting old new → KeyStored (derivation_by conversation mechanism setup credential greeting) old new
@@ -188,59 +187,59 @@ who_made true credential made = made
 who_made false credential made = λ kind row. row
 
 -- a hello that was answered could be made
-hello_made : (setup : Setup) (greeting : Greeting) (old middle : State) (before between : ℤ) → Reached (hello_plan setup) greeting old middle before between → HasNone (HelloRow (logging_in setup greeting))
+hello_made : (setup : Setup) (greeting : Greeting) (old middle : State) (before between : ℤ) → Reached (hello_plan setup) greeting (point old before) (point middle between) → HasNone (HelloRow (logging_in setup greeting))
 hello_made setup greeting old middle before between r =
     who_made (holds_users greeting.description.initial_server_type) setup.credential (greeted setup r.events greeting (record { follows = r.talked.follows; answer_is = r.answer_is })).made
 
 pub handshake_taken : (setup : Setup) (greeting : Greeting) (old new : Checkpoint) → HandshakeCosts setup greeting old new → KeyStored (derivation_plan setup) old new
 unfolding derivation_plan login_derivation
 handshake_taken setup greeting old new h =
-    taken_after (hello_plan setup) (login_derivation setup) greeting h.middle h.between old new h.hello
-    (login_taken (logging_in setup greeting) setup greeting (checkpoint h.middle h.between old.ledgers) new (hello_made setup greeting old.state h.middle old.id h.between h.hello) h.login)
+    taken_after (hello_plan setup) (login_derivation setup) greeting h.middle.state h.middle.id old new h.hello
+    (login_taken (logging_in setup greeting) setup greeting (checkpoint h.middle old.ledgers) new (hello_made setup greeting old.point.state h.middle.state old.point.id h.middle.id h.hello) h.login)
 
 -- a login was accepted, and its server had named no service
 abbrev pub UnnamedCosts : Setup → ErrorKind → Checkpoint → Checkpoint → Type 0
 UnnamedCosts setup kind old new = (kind ≡ IncompatibleServer) × ((greeting : Greeting) × HandshakeCosts setup greeting old new)
 
 -- one that was stopped, or whose server named no service
-pub establishment_spent : (phase : HandshakePhase) (setup : Setup) (kind : ErrorKind) (old new : State) (after : ℤ) (first last : Ledgers) → StoppedIn phase setup kind (start_of setup old first) (checkpoint new after last)
-    → KeySpent (derivation_plan setup) kind (checkpoint old setup.first_id first) (checkpoint new after last) ⊎ UnnamedCosts setup kind (checkpoint old setup.first_id first) (checkpoint new after last)
+pub establishment_spent : (phase : HandshakePhase) (setup : Setup) (kind : ErrorKind) (old new : State) (after : ℤ) (first last : Ledgers) → StoppedIn phase setup kind (start_of setup old first) (checkpoint (point new after) last)
+    → KeySpent (derivation_plan setup) kind (checkpoint (point old setup.first_id) first) (checkpoint (point new after) last) ⊎ UnnamedCosts setup kind (checkpoint (point old setup.first_id) first) (checkpoint (point new after) last)
 unfolding derivation_plan login_derivation
 establishment_spent (PreHello generation) setup kind old new after first last (is, stopped, nothing) = inl (inl (record { stopped = (stopped.0, stopped_first (hello_plan setup) (login_derivation setup) kind old new setup.first_id after stopped.1); nothing = nothing }))
 establishment_spent (PostHello generation) setup kind old new after first last s =
-    let made = hello_made setup s.greeting old s.middle setup.first_id s.between s.hello in
+    let made = hello_made setup s.greeting old s.middle.state setup.first_id s.middle.id s.hello in
     elim s.stopped [
-      | inl l ↦ inl (spent_after (hello_plan setup) (login_derivation setup) s.greeting kind s.middle s.between (checkpoint old setup.first_id first) (checkpoint new after last) s.hello
-          (login_spent (logging_in setup s.greeting) setup s.greeting kind (checkpoint s.middle s.between first) (checkpoint new after last) made l.costs))
-      | inr u ↦ inr (u.unnamed.0, (s.greeting, record { middle = s.middle; between = s.between; hello = s.hello; login = u.costs }))
+      | inl l ↦ inl (spent_after (hello_plan setup) (login_derivation setup) s.greeting kind s.middle.state s.middle.id (checkpoint (point old setup.first_id) first) (checkpoint (point new after) last) s.hello
+          (login_spent (logging_in setup s.greeting) setup s.greeting kind (checkpoint s.middle first) (checkpoint (point new after) last) made l.costs))
+      | inr u ↦ inr (u.unnamed.0, (s.greeting, record { middle = s.middle; hello = s.hello; login = u.costs }))
     ]
 
 -- ---- over told bytes
 
-takes_led : (setup : Setup) (bytes : List ℕ) (old new : Checkpoint) → KeyStored (derivation_plan setup) old new → old.state.left ≡ Some bytes → LedToKey setup bytes (λ key. AcceptedKeyCosts key old.ledgers new.ledgers)
+takes_led : (setup : Setup) (bytes : List ℕ) (old new : Checkpoint) → KeyStored (derivation_plan setup) old new → old.point.state.left ≡ Some bytes → LedToKey setup bytes (λ key. AcceptedKeyCosts key old.ledgers new.ledgers)
 takes_led setup bytes old new a is =
-    let l = reached_led (derivation_plan setup) a.key old.state a.middle old.id a.between bytes a.reached is in
+    let l = reached_led (derivation_plan setup) a.key old.point.state a.middle.state old.point.id a.middle.id bytes a.reached is in
     record { key = a.key; leads = record { outcome = ends a.key; commands = l.commands; taken = l.taken; unread = l.unread; leads = l.leads; key_is = refl }; taken = a.takes }
 
 -- memory ran out, or the bytes lead to the key
-spends_led : (setup : Setup) (kind : ErrorKind) (bytes : List ℕ) (old new : Checkpoint) → KeySpent (derivation_plan setup) kind old new → old.state.left ≡ Some bytes → Unfailed old.state new.state
+spends_led : (setup : Setup) (kind : ErrorKind) (bytes : List ℕ) (old new : Checkpoint) → KeySpent (derivation_plan setup) kind old new → old.point.state.left ≡ Some bytes → Unfailed old.point.state new.point.state
     → (kind ≡ OutOfMemory) ⊎ LedToKey setup bytes (λ key. RefusedKeyCosts key old.ledgers new.ledgers)
 spends_led setup kind bytes old new s is unfailed =
     elim s [
-      | inl early ↦ elim (stopped_led (derivation_plan setup) kind old.state new.state old.id new.id bytes early.stopped.1 is unfailed) [
+      | inl early ↦ elim (stopped_led (derivation_plan setup) kind old.point.state new.point.state old.point.id new.point.id bytes early.stopped.1 is unfailed) [
         | inl memory ↦ inl memory
         | inr l ↦ inr (record { key = None; leads = record { outcome = refuses kind; commands = l.commands; taken = l.taken; unread = l.unread; leads = l.leads; key_is = refl }; taken = early.nothing })
       ]
       | inr late ↦ elim late.takes [
         | inl takes ↦
-            let l = reached_led (derivation_plan setup) late.key old.state late.middle old.id late.between bytes late.reached is in
+            let l = reached_led (derivation_plan setup) late.key old.point.state late.middle.state old.point.id late.middle.id bytes late.reached is in
             inr (record { key = late.key; leads = record { outcome = ends late.key; commands = l.commands; taken = l.taken; unread = l.unread; leads = l.leads; key_is = refl }; taken = takes })
         | inr memory ↦ inl memory.0
       ]
     ]
 
 -- a handshake that was accepted: the connection is ready, or its server named no service
-pub pooled_led : (r : Result PooledConnection EstablishError) (setup : Setup) (greeting : Greeting) (old new : Checkpoint) → HandshakeCosts setup greeting old new → IfErr r (λ e. e.cause.kind ≡ IncompatibleServer) → CostsAsLed r setup old.state new.state old.ledgers new.ledgers
+pub pooled_led : (r : Result PooledConnection EstablishError) (setup : Setup) (greeting : Greeting) (old new : Checkpoint) → HandshakeCosts setup greeting old new → IfErr r (λ e. e.cause.kind ≡ IncompatibleServer) → CostsAsLed r setup old.point.state new.point.state old.ledgers new.ledgers
 pooled_led (Ok pooled) setup greeting old new h unnamed = record { over = λ bytes is unfailed. takes_led setup bytes old new (handshake_taken setup greeting old new h) is }
 pooled_led (Err e) setup greeting old new h unnamed = record { over = λ bytes is unfailed. inr (inl (record { kind_is = unnamed; led = takes_led setup bytes old new (handshake_taken setup greeting old new h) is })) }
 
@@ -254,11 +253,11 @@ unnamed_entries P (Ok pooled) connection pool u = tt
 unnamed_entries P (Err e) connection pool u = inl u.kind_is
 
 -- one that was refused
-pub refused_led : (e : EstablishError) (setup : Setup) (old new : State) (after : ℤ) (first last : Ledgers) → StoppedIn e.handshake_phase setup e.cause.kind (start_of setup old first) (checkpoint new after last) → (e.cause.kind ≡ IncompatibleServer → ⊥) → CostsAsLed {T = PooledConnection} (Err e) setup old new first last
+pub refused_led : (e : EstablishError) (setup : Setup) (old new : State) (after : ℤ) (first last : Ledgers) → StoppedIn e.handshake_phase setup e.cause.kind (start_of setup old first) (checkpoint (point new after) last) → (e.cause.kind ≡ IncompatibleServer → ⊥) → CostsAsLed {T = PooledConnection} (Err e) setup old new first last
 refused_led e setup old new after first last s other = record {
   over = λ bytes is unfailed.
       elim (establishment_spent e.handshake_phase setup e.cause.kind old new after first last s) [
-        | inl spent ↦ elim (spends_led setup e.cause.kind bytes (checkpoint old setup.first_id first) (checkpoint new after last) spent is unfailed) [
+        | inl spent ↦ elim (spends_led setup e.cause.kind bytes (checkpoint (point old setup.first_id) first) (checkpoint (point new after) last) spent is unfailed) [
           | inl memory ↦ inl memory
           | inr led ↦ inr (inr (record { other = other; led = led }))
         ]
@@ -266,5 +265,5 @@ refused_led e setup old new after first last s other = record {
       ];
 }
 
-pub refused_compatible : (e : EstablishError) (cause : Error) (setup : Setup) (opened connection : Connection) (old new : State) (after : ℤ) (first last : Ledgers) → e.cause ≡ cause → StoppedHandshake setup opened connection cause.kind (start_of setup old first) (checkpoint new after last) → e.cause.kind ≡ IncompatibleServer → ⊥
+pub refused_compatible : (e : EstablishError) (cause : Error) (setup : Setup) (opened connection : Connection) (old new : State) (after : ℤ) (first last : Ledgers) → e.cause ≡ cause → StoppedHandshake setup opened connection cause.kind (start_of setup old first) (checkpoint (point new after) last) → e.cause.kind ≡ IncompatibleServer → ⊥
 refused_compatible e cause setup opened connection old new after first last same s is = compatible setup opened connection cause.kind old new after first last s (sym (ap (λ (c : Error). c.kind) same) ∙ is)

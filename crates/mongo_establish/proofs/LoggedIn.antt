@@ -7,6 +7,7 @@ use Rattle.mongo_wire.specs.declared.auth_fault.AuthFault.TheVariants.{MongoDbCr
 use Rattle.mongo_wire.specs.Outside.{State}
 use Rattle.mongo_command.specs.declared.stream_description.StreamDescription.{StreamDescription}
 use Rattle.mongo_command.specs.Conversation.{HasNone, Reached, StoppedKeeping}
+use Rattle.mongo_command.specs.Exchange.{point}
 use Rattle.mongo_command.proofs.Steps.{reached_ending, reached_unless, reached_reading, stopped_unless, stopped_reading}
 use Rattle.mongo_sasl.specs.declared.credential.Credential.{Credential}
 use Rattle.mongo_sasl.specs.declared.mechanism.AuthMechanism.{AuthMechanism}
@@ -31,9 +32,9 @@ use Rattle.mongo_establish.proofs.Validated.{credential_no_row}
 -- ---- who logs in
 
 -- without somebody who logs in, a login ends at once
-pub nobody : (setup : Setup) (greeting : Greeting) (old : State) (before : ℤ) → logging_in setup greeting ≡ None → Reached (login_plan setup greeting) greeting old old before before
+pub nobody : (setup : Setup) (greeting : Greeting) (old : State) (before : ℤ) → logging_in setup greeting ≡ None → Reached (login_plan setup greeting) greeting (point old before) (point old before)
 unfolding login_plan
-nobody setup greeting old before is = subst (λ who. Reached (login_by who setup greeting) greeting old old before before) (sym is) (reached_ending greeting old before)
+nobody setup greeting old before is = subst (λ who. Reached (login_by who setup greeting) greeting (point old before) (point old before)) (sym is) (reached_ending greeting old before)
 
 pub nobody_costs : (setup : Setup) (greeting : Greeting) (old : Checkpoint) → logging_in setup greeting ≡ None → CostsNothing old.ledgers old.ledgers → LoginCosts setup greeting old old
 nobody_costs setup greeting old is nothing = subst (λ who. LoginCostsOf who setup greeting old old) (sym is) nothing
@@ -105,13 +106,13 @@ takes_it (Some reply) speculated mechanism credential is taken = tt
 -- ---- a mechanism's plan
 
 validated_reached : (mechanism : AuthMechanism) (conversation : Conversation) (setup : Setup) (credential : Credential) (greeting : Greeting) (old new : State) (before after : ℤ) → HasConversation mechanism conversation → HasNone (InvalidRow (speculative_reply setup greeting) mechanism credential)
-    → Reached (conversation_plan conversation setup credential greeting) greeting old new before after → Reached (mechanism_plan mechanism setup credential greeting) greeting old new before after
+    → Reached (conversation_plan conversation setup credential greeting) greeting (point old before) (point new after) → Reached (mechanism_plan mechanism setup credential greeting) greeting (point old before) (point new after)
 unfolding mechanism_plan
 validated_reached mechanism conversation setup credential greeting old new before after has none r =
     reached_reading (HasConversation mechanism) (validated mechanism setup credential greeting) conversation greeting old new before after has (reached_unless _ _ greeting old new before after none r)
 
 validated_stopped : {kept : Option ErrorKind} (mechanism : AuthMechanism) (conversation : Conversation) (setup : Setup) (credential : Credential) (greeting : Greeting) (kind : ErrorKind) (old new : State) (before after : ℤ) → HasConversation mechanism conversation → HasNone (InvalidRow (speculative_reply setup greeting) mechanism credential)
-    → StoppedKeeping (conversation_plan conversation setup credential greeting) kind old new before after kept → StoppedKeeping (mechanism_plan mechanism setup credential greeting) kind old new before after kept
+    → StoppedKeeping (conversation_plan conversation setup credential greeting) kind (point old before) (point new after) kept → StoppedKeeping (mechanism_plan mechanism setup credential greeting) kind (point old before) (point new after) kept
 unfolding mechanism_plan
 validated_stopped mechanism conversation setup credential greeting kind old new before after has none s =
     stopped_reading (HasConversation mechanism) (validated mechanism setup credential greeting) conversation kind old new before after has (stopped_unless _ _ kind old new before after none s)
@@ -131,21 +132,21 @@ module _ (setup : Setup) (greeting : Greeting) (credential : Credential) (round 
   pub went_by : IsRoundBy (Some conversation) credential setup greeting round
   went_by = record { there = went.there; scram = λ scram. went.scram (begun_by_scram credential.mechanism (speculative_reply setup greeting) greeting.description mechanism by_mechanism (subst IsScram (sym has) scram)) }
 
-  login_reached : (old new : State) (before after : ℤ) → Reached (mechanism_plan mechanism setup credential greeting) greeting old new before after → Reached (login_plan setup greeting) greeting old new before after
+  login_reached : (old new : State) (before after : ℤ) → Reached (mechanism_plan mechanism setup credential greeting) greeting (point old before) (point new after) → Reached (login_plan setup greeting) greeting (point old before) (point new after)
   unfolding login_plan
   login_reached old new before after r =
-      subst (λ w. Reached (login_by w setup greeting) greeting old new before after) (sym (a_user setup greeting credential holds who)) (reached_reading (IsMechanism credential.mechanism (speculative_reply setup greeting) greeting.description) (λ m. mechanism_plan m setup credential greeting) mechanism greeting old new before after by_mechanism r)
+      subst (λ w. Reached (login_by w setup greeting) greeting (point old before) (point new after)) (sym (a_user setup greeting credential holds who)) (reached_reading (IsMechanism credential.mechanism (speculative_reply setup greeting) greeting.description) (λ m. mechanism_plan m setup credential greeting) mechanism greeting old new before after by_mechanism r)
 
-  login_stopped : {kept : Option ErrorKind} (kind : ErrorKind) (old new : State) (before after : ℤ) → StoppedKeeping (mechanism_plan mechanism setup credential greeting) kind old new before after kept → StoppedKeeping (login_plan setup greeting) kind old new before after kept
+  login_stopped : {kept : Option ErrorKind} (kind : ErrorKind) (old new : State) (before after : ℤ) → StoppedKeeping (mechanism_plan mechanism setup credential greeting) kind (point old before) (point new after) kept → StoppedKeeping (login_plan setup greeting) kind (point old before) (point new after) kept
   unfolding login_plan
   login_stopped {kept = kept} kind old new before after s =
-      subst (λ w. StoppedKeeping (login_by w setup greeting) kind old new before after kept) (sym (a_user setup greeting credential holds who)) (stopped_reading (IsMechanism credential.mechanism (speculative_reply setup greeting) greeting.description) (λ m. mechanism_plan m setup credential greeting) mechanism kind old new before after by_mechanism s)
+      subst (λ w. StoppedKeeping (login_by w setup greeting) kind (point old before) (point new after) kept) (sym (a_user setup greeting credential holds who)) (stopped_reading (IsMechanism credential.mechanism (speculative_reply setup greeting) greeting.description) (λ m. mechanism_plan m setup credential greeting) mechanism kind old new before after by_mechanism s)
 
   -- the mechanism doesn't take the credential, which it is asked only where no first round was answered
   invalid_row : (kind : ErrorKind) → is_some round ≡ false → InvalidRow None mechanism credential kind → InvalidRow (speculative_reply setup greeting) mechanism credential kind
   invalid_row kind none row = subst (λ reply. InvalidRow reply mechanism credential kind) (sym (none_is (speculative_reply setup greeting) (sym went.there ∙ none))) row
 
-  pub invalid_stopped : (kind : ErrorKind) (old : State) (before : ℤ) → is_some round ≡ false → InvalidRow None mechanism credential kind → StoppedKeeping (login_plan setup greeting) kind old old before before None
+  pub invalid_stopped : (kind : ErrorKind) (old : State) (before : ℤ) → is_some round ≡ false → InvalidRow None mechanism credential kind → StoppedKeeping (login_plan setup greeting) kind (point old before) (point old before) None
   invalid_stopped kind old before none row = login_stopped kind old old before before (at_once_keeping (mechanism_plan mechanism setup credential greeting) kind old before (row_refused mechanism conversation setup credential greeting kind has (invalid_row kind none row)))
 
   pub invalid_costs : (kind : ErrorKind) (old : Checkpoint) → is_some round ≡ false → InvalidRow None mechanism credential kind → CostsNothing old.ledgers old.ledgers → StoppedLoginCosts setup greeting kind old old
@@ -156,8 +157,8 @@ module _ (setup : Setup) (greeting : Greeting) (credential : Credential) (round 
     no_row : HasNone (InvalidRow (speculative_reply setup greeting) mechanism credential)
     no_row = credential_no_row (speculative_reply setup greeting) mechanism credential (takes_it (speculative_reply setup greeting) (is_some round) mechanism credential went.there taken)
 
-    pub conversed_reached : (old new : Checkpoint) → Conversed conversation setup credential greeting old new → Reached (login_plan setup greeting) greeting old.state new.state old.id new.id
-    conversed_reached old new h = login_reached old.state new.state old.id new.id (validated_reached mechanism conversation setup credential greeting old.state new.state old.id new.id has no_row h.reached)
+    pub conversed_reached : (old new : Checkpoint) → Conversed conversation setup credential greeting old new → Reached (login_plan setup greeting) greeting old.point new.point
+    conversed_reached old new h = login_reached old.point.state new.point.state old.point.id new.point.id (validated_reached mechanism conversation setup credential greeting old.point.state new.point.state old.point.id new.point.id has no_row h.reached)
 
     pub conversed_costs : (old new : Checkpoint) → Conversed conversation setup credential greeting old new → LoginCosts setup greeting old new
     conversed_costs old new h =
@@ -167,8 +168,8 @@ module _ (setup : Setup) (greeting : Greeting) (credential : Credential) (round 
           costs = subst (λ o. AcceptedCosts (scram_in o) setup credential greeting old new) (sym has) h.costs;
         })
 
-    pub stopped_stopped : {kept : Option ErrorKind} (kind : ErrorKind) (old new : Checkpoint) → ConversationStopped conversation setup credential greeting kind kept old new → StoppedKeeping (login_plan setup greeting) kind old.state new.state old.id new.id kept
-    stopped_stopped kind old new h = login_stopped kind old.state new.state old.id new.id (validated_stopped mechanism conversation setup credential greeting kind old.state new.state old.id new.id has no_row h.stopped)
+    pub stopped_stopped : {kept : Option ErrorKind} (kind : ErrorKind) (old new : Checkpoint) → ConversationStopped conversation setup credential greeting kind kept old new → StoppedKeeping (login_plan setup greeting) kind old.point new.point kept
+    stopped_stopped kind old new h = login_stopped kind old.point.state new.point.state old.point.id new.point.id (validated_stopped mechanism conversation setup credential greeting kind old.point.state new.point.state old.point.id new.point.id has no_row h.stopped)
 
     pub stopped_costs : {kept : Option ErrorKind} (kind : ErrorKind) (old new : Checkpoint) → ConversationStopped conversation setup credential greeting kind kept old new → StoppedLoginCosts setup greeting kind old new
     stopped_costs kind old new h =

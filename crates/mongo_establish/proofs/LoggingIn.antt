@@ -35,14 +35,14 @@ empty_server setup description held round old is empty nothing =
     let none : (greeting : Greeting) → held ≡ Some greeting.description → holds_users greeting.description.initial_server_type ≡ false =
     λ greeting described. subst (λ d. holds_users d.initial_server_type ≡ false) (same_description description greeting.description (sym is ∙ described)) empty in
     record {
-      reached = λ greeting described r. nobody setup greeting old.state old.id (no_users setup greeting (none greeting described));
+      reached = λ greeting described r. nobody setup greeting old.point.state old.point.id (no_users setup greeting (none greeting described));
       costs = λ greeting described r. nobody_costs setup greeting old (no_users setup greeting (none greeting described)) nothing;
     }
 
 -- there is no credential
 pub no_login : (setup : Setup) (held : Option StreamDescription) (round : Option AnsweredRound) (old : Checkpoint) → setup.credential ≡ None → CostsNothing old.ledgers old.ledgers → LogsIn setup held round old old
 no_login setup held round old none nothing = record {
-  reached = λ greeting described r. nobody setup greeting old.state old.id (no_credential setup greeting none);
+  reached = λ greeting described r. nobody setup greeting old.point.state old.point.id (no_credential setup greeting none);
   costs = λ greeting described r. nobody_costs setup greeting old (no_credential setup greeting none) nothing;
 }
 
@@ -85,7 +85,7 @@ module _ (opened : Connection) (options : HandshakerOptions) (given : Option Cre
       → IfErr r (λ e. LoginStops setup held round e.kind kept old old)
   log_in_invalid (Ok x) kept old none nothing h = tt
   log_in_invalid (Err e) kept old none nothing h = record {
-    stopped = λ greeting described r. subst (StoppedKeeping (login_plan setup greeting) e.kind old.state old.state old.id old.id) (sym none) (invalid_stopped setup greeting credential round mechanism who (users greeting described) (went greeting r) (greeted_mechanism greeting described) found.0 found.1 e.kind old.state old.id h.0 h.1);
+    stopped = λ greeting described r. subst (StoppedKeeping (login_plan setup greeting) e.kind old.point old.point) (sym none) (invalid_stopped setup greeting credential round mechanism who (users greeting described) (went greeting r) (greeted_mechanism greeting described) found.0 found.1 e.kind old.point.state old.point.id h.0 h.1);
     costs = λ greeting described r. invalid_costs setup greeting credential round mechanism who (users greeting described) (went greeting r) (greeted_mechanism greeting described) found.0 found.1 e.kind old h.0 h.1 nothing;
   }
 

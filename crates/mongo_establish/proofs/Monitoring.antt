@@ -13,6 +13,7 @@ use Rattle.mongo_command.specs.Hello.{description_of}
 use Rattle.mongo_command.proofs.FollowedBy.{stopped_first}
 use Rattle.mongo_command.proofs.Steps.{reached_unless, stopped_unless}
 use Rattle.mongo_command.specs.EndsExchange.{footing}
+use Rattle.mongo_command.specs.Exchange.{point}
 use Rattle.mongo_establish.specs.declared.options.HandshakerOptions.{HandshakerOptions}
 use Rattle.mongo_establish.specs.Setup.{Setup, setup_alone}
 use Rattle.mongo_establish.specs.Established.{GreetedBy, UngreetedBy, IsReplyOf, Monitored}
@@ -33,9 +34,9 @@ module _ (address : ServerAddress) (number : ℕ) (options : HandshakerOptions) 
     abbrev greeting : Greeting
     greeting = greeting_in opened.address reply
 
-    hello : Reached (hello_plan alone) greeting old new id after
+    hello : Reached (hello_plan alone) greeting (point old id) (point new after)
     unfolding hello_plan
-    hello = reached_unless _ _ greeting old new id after (λ kind row. row) (subst (λ a. Reached (hello_exchange options None None a) greeting old new id after) at greeted.reached)
+    hello = reached_unless _ _ greeting old new id after (λ kind row. row) (subst (λ a. Reached (hello_exchange options None None a) greeting (point old id) (point new after)) at greeted.reached)
 
     reply_alone : IsReplyOf alone greeting reply
     unfolding greeting_in
@@ -60,14 +61,14 @@ module _ (address : ServerAddress) (number : ℕ) (options : HandshakerOptions) 
 
   -- ---- it wasn't
 
-  stopped : (kind : ErrorKind) (old new : State) (after : ℤ) → Stopped (hello_exchange options None None opened.address) kind old new id after → Stopped (hello_plan alone) kind old new id after
+  stopped : (kind : ErrorKind) (old new : State) (after : ℤ) → Stopped (hello_exchange options None None opened.address) kind (point old id) (point new after) → Stopped (hello_plan alone) kind (point old id) (point new after)
   unfolding hello_plan
   stopped kind old new after s =
-      (s.0, stopped_unless _ _ kind old new id after (λ k row. row) (subst (λ a. StoppedKeeping (hello_exchange options None None a) kind old new id after s.0) at s.1))
+      (s.0, stopped_unless _ _ kind old new id after (λ k row. row) (subst (λ a. StoppedKeeping (hello_exchange options None None a) kind (point old id) (point new after) s.0) at s.1))
 
-  pub unmonitored : {T : Type 0} (r : Result T Error) (connection : Connection) (old new : State) (after : ℤ) → IfErr r (λ e. UngreetedBy options None None e.kind (footing opened old id) (footing connection new after)) → IfErr r (λ e. Stopped (hello_plan alone) e.kind old new id after)
+  pub unmonitored : {T : Type 0} (r : Result T Error) (connection : Connection) (old new : State) (after : ℤ) → IfErr r (λ e. UngreetedBy options None None e.kind (footing opened old id) (footing connection new after)) → IfErr r (λ e. Stopped (hello_plan alone) e.kind (point old id) (point new after))
   unmonitored r connection old new after = IfErr-weaker r _ _ (λ e h. stopped e.kind old new after (kept_fault connection, h.stopped))
 
-  pub unmonitored_whole : {T : Type 0} (r : Result T Error) (old new : State) (after : ℤ) → IfErr r (λ e. Stopped (hello_plan alone) e.kind old new id after) → IfErr r (λ e. Stopped (establishment_plan alone) e.kind old new id after)
+  pub unmonitored_whole : {T : Type 0} (r : Result T Error) (old new : State) (after : ℤ) → IfErr r (λ e. Stopped (hello_plan alone) e.kind (point old id) (point new after)) → IfErr r (λ e. Stopped (establishment_plan alone) e.kind (point old id) (point new after))
   unfolding handshake_plan
   unmonitored_whole r old new after = IfErr-weaker r _ _ (λ e s. handshake_stops alone e.kind old new after (s.0, stopped_first (hello_plan alone) (login_plan alone) e.kind old new id after s.1))

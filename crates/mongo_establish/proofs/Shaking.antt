@@ -12,6 +12,7 @@ use Rattle.mongo_command.specs.Hello.{description_of}
 use Rattle.mongo_command.proofs.Rest.{keeps_all}
 use Rattle.mongo_command.proofs.Steps.{reached_unless, stopped_unless}
 use Rattle.mongo_command.specs.EndsExchange.{footing}
+use Rattle.mongo_command.specs.Exchange.{point}
 use Rattle.mongo_sasl.specs.declared.credential.Credential.{Credential}
 use Rattle.mongo_sasl.specs.Stops.{RefusedAtOnce}
 use Rattle.mongo_sasl.proofs.AtOnce.{at_once_more, at_once_keeping}
@@ -72,13 +73,13 @@ module _ (opened : Connection) (options : HandshakerOptions) (credential : Optio
         let login = speculation credential nonces.first in
         at_once_more (hello_exchange options credential login opened.address) (hello_plan setup) kind (λ turn h. inr (none.0, h)) (unbuilt options credential login opened fresh kind (unmade_refused options credential login kind none.1))
 
-    unmade_keeping : (kind : ErrorKind) (old : State) → NoFirst kind → StoppedKeeping (hello_plan setup) kind old old id id None
+    unmade_keeping : (kind : ErrorKind) (old : State) → NoFirst kind → StoppedKeeping (hello_plan setup) kind (point old id) (point old id) None
     unmade_keeping kind old h = at_once_keeping (hello_plan setup) kind old id (unmade kind h)
 
-    pub unmade_stopped : {T : Type 0} (r : Result T Error) (old : State) (first last : Ledgers) → kept_fault opened ≡ None → CostsNothing first last → IfErr r (λ e. NoFirst e.kind) → IfErr r (λ e. StoppedHandshake setup opened opened e.kind (start_of setup old first) (checkpoint old id last))
+    pub unmade_stopped : {T : Type 0} (r : Result T Error) (old : State) (first last : Ledgers) → kept_fault opened ≡ None → CostsNothing first last → IfErr r (λ e. NoFirst e.kind) → IfErr r (λ e. StoppedHandshake setup opened opened e.kind (start_of setup old first) (checkpoint (point old id) last))
     unmade_stopped (Ok x) old first last faultless nothing h = tt
     unmade_stopped (Err e) old first last faultless nothing h =
-        inl (record { hello = subst (StoppedKeeping (hello_plan setup) e.kind old old id id) (sym faultless) (unmade_keeping e.kind old h); costs = nothing; undescribed = fresh; rest = keeps_all opened })
+        inl (record { hello = subst (StoppedKeeping (hello_plan setup) e.kind (point old id) (point old id)) (sym faultless) (unmade_keeping e.kind old h); costs = nothing; undescribed = fresh; rest = keeps_all opened })
 
   -- ---- the hello
 
@@ -86,18 +87,18 @@ module _ (opened : Connection) (options : HandshakerOptions) (credential : Optio
     abbrev sent : Option (List ℕ)
     sent = option_map first_document first
 
-    stopped_so : {kept : Option ErrorKind} (kind : ErrorKind) (old new : State) (after : ℤ) → StoppedKeeping (hello_exchange options credential sent opened.address) kind old new id after kept → StoppedKeeping (hello_plan setup) kind old new id after kept
+    stopped_so : {kept : Option ErrorKind} (kind : ErrorKind) (old new : State) (after : ℤ) → StoppedKeeping (hello_exchange options credential sent opened.address) kind (point old id) (point new after) kept → StoppedKeeping (hello_plan setup) kind (point old id) (point new after) kept
     unfolding hello_plan
     stopped_so {kept = kept} kind old new after s =
-        stopped_unless _ _ kind old new id after made (subst (λ login. StoppedKeeping (hello_exchange options credential login opened.address) kind old new id after kept) (first_speculation credential nonces.first first is_first) s)
+        stopped_unless _ _ kind old new id after made (subst (λ login. StoppedKeeping (hello_exchange options credential login opened.address) kind (point old id) (point new after) kept) (first_speculation credential nonces.first first is_first) s)
 
-    reached_so : (greeting : Greeting) (old new : State) (after : ℤ) → Reached (hello_exchange options credential sent opened.address) greeting old new id after → Reached (hello_plan setup) greeting old new id after
+    reached_so : (greeting : Greeting) (old new : State) (after : ℤ) → Reached (hello_exchange options credential sent opened.address) greeting (point old id) (point new after) → Reached (hello_plan setup) greeting (point old id) (point new after)
     unfolding hello_plan
     reached_so greeting old new after r =
-        reached_unless _ _ greeting old new id after made (subst (λ login. Reached (hello_exchange options credential login opened.address) greeting old new id after) (first_speculation credential nonces.first first is_first) r)
+        reached_unless _ _ greeting old new id after made (subst (λ login. Reached (hello_exchange options credential login opened.address) greeting (point old id) (point new after)) (first_speculation credential nonces.first first is_first) r)
 
     pub ungreeted_stopped : {T : Type 0} (r : Result T Error) (connection : Connection) (old new : State) (after : ℤ) (first last : Ledgers) → CostsNothing first last → IfErr r (λ e. UngreetedBy options credential sent e.kind (footing opened old id) (footing connection new after))
-        → IfErr r (λ e. StoppedHandshake setup opened connection e.kind (start_of setup old first) (checkpoint new after last))
+        → IfErr r (λ e. StoppedHandshake setup opened connection e.kind (start_of setup old first) (checkpoint (point new after) last))
     ungreeted_stopped (Ok x) connection old new after first last nothing h = tt
     ungreeted_stopped (Err e) connection old new after first last nothing h = inl (record { hello = stopped_so e.kind old new after h.stopped; costs = nothing; undescribed = h.undescribed; rest = h.rest })
 
@@ -108,7 +109,7 @@ module _ (opened : Connection) (options : HandshakerOptions) (credential : Optio
       abbrev greeting : Greeting
       greeting = greeting_in opened.address reply
 
-      hello_reached : Reached (hello_plan setup) greeting old middle id between
+      hello_reached : Reached (hello_plan setup) greeting (point old id) (point middle between)
       hello_reached = reached_so greeting old middle between greeted.reached
 
       -- the login is asked anew, over the described connection
@@ -131,15 +132,14 @@ module _ (opened : Connection) (options : HandshakerOptions) (credential : Optio
           }
 
       pub login_stopped : {T : Type 0} (r : Result T Error) (connection : Connection) (new : State) (after : ℤ) (first last : Ledgers) → KeepsRest described connection
-          → IfErr r (λ e. LoginStops anew described.stream_description round e.kind (kept_fault connection) (checkpoint middle between first) (checkpoint new after last)) → IfErr r (λ e. StoppedHandshake setup opened connection e.kind (start_of setup old first) (checkpoint new after last))
+          → IfErr r (λ e. LoginStops anew described.stream_description round e.kind (kept_fault connection) (checkpoint (point middle between) first) (checkpoint (point new after) last)) → IfErr r (λ e. StoppedHandshake setup opened connection e.kind (start_of setup old first) (checkpoint (point new after) last))
       login_stopped (Ok x) connection new after first last later h = tt
       login_stopped (Err e) connection new after first last later h = inr (record {
         greeting = greeting;
-        middle = middle;
-        between = between;
+        middle = point middle between;
         hello = hello_reached;
         login = stopped_alike (pending_over described) (pending_over opened) options credential nonces between id greeting e.kind middle new between after (h.stopped greeting greeted.described.holds.description_is held_round);
-        costs = stopped_login_costs_alike (pending_over described) (pending_over opened) options credential nonces between id greeting e.kind (checkpoint middle between first) (checkpoint new after last) (h.costs greeting greeted.described.holds.description_is held_round);
+        costs = stopped_login_costs_alike (pending_over described) (pending_over opened) options credential nonces between id greeting e.kind (checkpoint (point middle between) first) (checkpoint (point new after) last) (h.costs greeting greeted.described.holds.description_is held_round);
         held = held connection later;
       })
 
@@ -156,18 +156,17 @@ module _ (opened : Connection) (options : HandshakerOptions) (credential : Optio
           })
 
       pub shook : (connection : Connection) (new : State) (after : ℤ) (first last : Ledgers) (answer : HelloReply) → KeepsRest described connection → kept_fault connection ≡ None → answer ≡ taken_out reply sent
-          → LogsIn anew described.stream_description round (checkpoint middle between first) (checkpoint new after last) → ShookHands setup opened connection (start_of setup old first) (checkpoint new after last) answer
+          → LogsIn anew described.stream_description round (checkpoint (point middle between) first) (checkpoint (point new after) last) → ShookHands setup opened connection (start_of setup old first) (checkpoint (point new after) last) answer
       shook connection new after first last answer later faultless is h =
           let login = reached_alike (pending_over described) (pending_over opened) options credential nonces between id greeting middle new between after (h.reached greeting greeted.described.holds.description_is held_round) in
           let whole = handshake_reached setup greeting old middle new between after hello_reached login in
           record {
             script = script_by setup greeting old new after whole tt;
             scripted = scripted_by setup greeting old new after whole tt;
-            middle = middle;
-            between = between;
+            middle = point middle between;
             hello = hello_reached;
             login = login;
-            costs = costs_alike (pending_over described) (pending_over opened) options credential nonces between id greeting (checkpoint middle between first) (checkpoint new after last) (h.costs greeting greeted.described.holds.description_is held_round);
+            costs = costs_alike (pending_over described) (pending_over opened) options credential nonces between id greeting (checkpoint (point middle between) first) (checkpoint (point new after) last) (h.costs greeting greeted.described.holds.description_is held_round);
             described = record { holds = held connection later; faultless = faultless };
             reply_is = is_reply answer is;
           }

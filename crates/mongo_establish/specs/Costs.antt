@@ -2,8 +2,8 @@
 use Rattle.std.specs.Prelude.{ℤ, ◌⊎◌, Option, None, Some}
 use Rattle.mongo_wire.specs.declared.error.ErrorKind.{ErrorKind}
 use Rattle.mongo_wire.specs.declared.frame_buffer.FrameBuffer.{FrameBuffer}
-use Rattle.mongo_wire.specs.Outside.{State}
 use Rattle.mongo_command.specs.Conversation.{Reached}
+use Rattle.mongo_command.specs.Exchange.{Point}
 use Rattle.mongo_sasl.specs.declared.credential.Credential.{Credential}
 use Rattle.mongo_sasl.specs.declared.mechanism.AuthMechanism.{AuthMechanism}
 use Rattle.mongo_scram.specs.declared.scram_version.ScramVersion.{ScramVersion}
@@ -64,7 +64,6 @@ StoppedLoginCosts setup greeting kind old new = StoppedLoginCostsOf (logging_in 
 
 -- the hello was followed to its end, with the old id, and the server greeted so, which costs nothing, and then the login
 pub record HandshakeCosts (setup : Setup) (greeting : Greeting) (old new : Checkpoint) : Type 0 where
-  pub middle : State
-  pub between : ℤ
-  pub hello : Reached (hello_plan setup) greeting old.state middle old.id between
-  pub login : LoginCosts setup greeting (checkpoint middle between old.ledgers) new
+  pub middle : Point
+  pub hello : Reached (hello_plan setup) greeting old.point middle
+  pub login : LoginCosts setup greeting (checkpoint middle old.ledgers) new

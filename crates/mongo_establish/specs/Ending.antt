@@ -22,14 +22,14 @@ pub record EndsEstablishment (setup : Setup) (old new : Checkpoint) (result : Re
   -- a refusal says why it comes, how far the establishment had come, what it left, and what was derived
   pub refused : IfErr result (λ e. StoppedIn e.handshake_phase setup e.cause.kind old new)
   -- a script's replies at the front of the bytes left are answered by a connection, unless the link fails or memory runs out
-  pub complete : (bytes : List ℕ) → old.state.left ≡ Some bytes → HasScript setup bytes →
-      Unfailed old.state new.state → IfErr result (λ e. e.cause.kind ≡ OutOfMemory)
+  pub complete : (bytes : List ℕ) → old.point.state.left ≡ Some bytes → HasScript setup bytes →
+      Unfailed old.point.state new.point.state → IfErr result (λ e. e.cause.kind ≡ OutOfMemory)
   -- bytes left that call for a refusal get just that one, and the link is left as it says; those that lead to an end get none
-  pub exact : (bytes taken unread : List ℕ) (outcome : Turn Greeting) (commands : List Said) → old.state.left ≡ Some bytes → Leads (establishment_plan setup) bytes outcome commands taken unread →
-      Unfailed old.state new.state →
-      IfErr result (λ e. (e.cause.kind ≡ OutOfMemory) ⊎ ((outcome ≡ refuses e.cause.kind) × LeftBy commands unread old.state new.state old.id new.id))
+  pub exact : (bytes taken unread : List ℕ) (outcome : Turn Greeting) (commands : List Said) → old.point.state.left ≡ Some bytes → Leads (establishment_plan setup) bytes outcome commands taken unread →
+      Unfailed old.point.state new.point.state →
+      IfErr result (λ e. (e.cause.kind ≡ OutOfMemory) ⊎ ((outcome ≡ refuses e.cause.kind) × LeftBy commands unread old.point new.point))
   -- the bytes left say which key was derived, if any, unless the link fails or memory runs out
-  pub led : CostsAsLed result setup old.state new.state old.ledgers new.ledgers
+  pub led : CostsAsLed result setup old.point.state new.point.state old.ledgers new.ledgers
   -- a refusal leaves the entries as they were, unless a login had been accepted
   pub entries : IfErr result (λ e. (e.cause.kind ≡ IncompatibleServer) ⊎ SameEntries old.ledgers new.ledgers)
-  pub counts : CountsStay old.state new.state
+  pub counts : CountsStay old.point.state new.point.state

@@ -24,12 +24,12 @@ use Rattle.mongo_establish.specs.Spoken.{scram_in}
 
 -- it was followed to its end, and cost this
 pub record Conversed (conversation : Conversation) (setup : Setup) (credential : Credential) (greeting : Greeting) (old new : Checkpoint) : Type 0 where
-  pub reached : Reached (conversation_plan conversation setup credential greeting) greeting old.state new.state old.id new.id
+  pub reached : Reached (conversation_plan conversation setup credential greeting) greeting old.point new.point
   pub costs : AcceptedCosts (scram_in (Some conversation)) setup credential greeting old new
 
 -- it was stopped, which leaves the connection to keep this
 pub record ConversationStopped (conversation : Conversation) (setup : Setup) (credential : Credential) (greeting : Greeting) (kind : ErrorKind) (kept : Option ErrorKind) (old new : Checkpoint) : Type 0 where
-  pub stopped : StoppedKeeping (conversation_plan conversation setup credential greeting) kind old.state new.state old.id new.id kept
+  pub stopped : StoppedKeeping (conversation_plan conversation setup credential greeting) kind old.point new.point kept
   pub costs : StoppedCosts (scram_in (Some conversation)) setup credential greeting kind old new
 
 -- what an answer means and leaves, by each greeting that says what the connection holds and what the first round is
@@ -40,7 +40,7 @@ pub record Converses (result : Result (Unit {0}) Error) (conversation : Conversa
   pub faultless : OnOk result (kept_fault left ≡ None)
   -- nothing else of the connection changes, and no count of the link falls
   pub rest : KeepsRest opened left
-  pub counts : CountsStay old.state new.state
+  pub counts : CountsStay old.point.state new.point.state
   -- a refusal leaves the entries of the cache as they were
   pub entries : OnErr result (SameEntries old.ledgers new.ledgers)
 
@@ -53,10 +53,10 @@ IsCredentialValid false mechanism credential = IsValidated mechanism credential 
 
 -- the login of each greeting that says so was followed to its end
 pub record LogsIn (setup : Setup) (held : Option StreamDescription) (round : Option AnsweredRound) (old new : Checkpoint) : Type 0 where
-  pub reached : (greeting : Greeting) → held ≡ Some greeting.description → IsRoundOf setup.credential setup greeting round → Reached (login_plan setup greeting) greeting old.state new.state old.id new.id
+  pub reached : (greeting : Greeting) → held ≡ Some greeting.description → IsRoundOf setup.credential setup greeting round → Reached (login_plan setup greeting) greeting old.point new.point
   pub costs : (greeting : Greeting) → held ≡ Some greeting.description → IsRoundOf setup.credential setup greeting round → LoginCosts setup greeting old new
 
 -- it was stopped, which leaves the connection to keep this
 pub record LoginStops (setup : Setup) (held : Option StreamDescription) (round : Option AnsweredRound) (kind : ErrorKind) (kept : Option ErrorKind) (old new : Checkpoint) : Type 0 where
-  pub stopped : (greeting : Greeting) → held ≡ Some greeting.description → IsRoundOf setup.credential setup greeting round → StoppedKeeping (login_plan setup greeting) kind old.state new.state old.id new.id kept
+  pub stopped : (greeting : Greeting) → held ≡ Some greeting.description → IsRoundOf setup.credential setup greeting round → StoppedKeeping (login_plan setup greeting) kind old.point new.point kept
   pub costs : (greeting : Greeting) → held ≡ Some greeting.description → IsRoundOf setup.credential setup greeting round → StoppedLoginCosts setup greeting kind old new

@@ -3,6 +3,7 @@ use Rattle.std.specs.Prelude.{ℕ, ℤ, Option, None, []}
 use Rattle.mongo_wire.specs.Outside.{State}
 use Rattle.mongo_command.specs.declared.connection.Connection.{Connection}
 use Rattle.mongo_command.specs.declared.server_address.ServerAddress.{ServerAddress}
+use Rattle.mongo_command.specs.Exchange.{point}
 use Rattle.mongo_sasl.specs.declared.credential.Credential.{Credential}
 use Rattle.mongo_establish.specs.declared.establisher.PendingConnection.{PendingConnection}
 use Rattle.mongo_establish.specs.declared.generation.PoolGeneration.TheVariants.{Normal}
@@ -38,8 +39,8 @@ setup_alone address id options first_id = setup_for (record { id = id; address =
 
 -- at its begin, over a link that stands so
 abbrev pub start_of : Setup → State → Ledgers → Checkpoint
-start_of setup link ledgers = checkpoint link setup.first_id ledgers
+start_of setup link ledgers = checkpoint (point link setup.first_id) ledgers
 
 -- with what is kept from one login to the next, and a counter of so many steps
 abbrev pub checkpoint_with : State → LoginState → ℕ → Checkpoint
-checkpoint_with link state steps = checkpoint link state.ids (ledgers steps state.salted)
+checkpoint_with link state steps = checkpoint (point link state.ids) (ledgers steps state.salted)

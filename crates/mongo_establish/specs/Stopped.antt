@@ -1,8 +1,8 @@
 -- Where an establishment was stopped and what it cost, by how far it had come, and what reply bytes call for.
 use Rattle.std.specs.Prelude.{◌≡◌, ℕ, ℤ, ◌⊎◌, List}
 use Rattle.mongo_wire.specs.declared.error.ErrorKind.{ErrorKind}
-use Rattle.mongo_wire.specs.Outside.{State}
 use Rattle.mongo_command.specs.Conversation.{Said, refuses, ends, Reached, Stopped, Leads}
+use Rattle.mongo_command.specs.Exchange.{Point}
 use Rattle.mongo_scram.specs.Costs.{Checkpoint, checkpoint, CostsNothing}
 use Rattle.mongo_establish.specs.declared.generation.ConnectionGeneration.{ConnectionGeneration}
 use Rattle.mongo_establish.specs.declared.establisher.HandshakePhase.{HandshakePhase}
@@ -18,28 +18,27 @@ use Rattle.mongo_establish.specs.Refusal.{NoService}
 
 -- the login was stopped, and cost this
 pub record LoginRefused (setup : Setup) (greeting : Greeting) (kind : ErrorKind) (old new : Checkpoint) : Type 0 where
-  pub login : Stopped (login_plan setup greeting) kind old.state new.state old.id new.id
+  pub login : Stopped (login_plan setup greeting) kind old.point new.point
   pub costs : StoppedLoginCosts setup greeting kind old new
 
 -- it was followed to its end, and cost this, and then the server had named no service
 pub record UnnamedAfterLogin (setup : Setup) (greeting : Greeting) (kind : ErrorKind) (old new : Checkpoint) : Type 0 where
-  pub login : Reached (login_plan setup greeting) greeting old.state new.state old.id new.id
+  pub login : Reached (login_plan setup greeting) greeting old.point new.point
   pub costs : LoginCosts setup greeting old new
   pub unnamed : NoService setup.pending.generation greeting.description kind
 
 -- the hello had described the server, and what follows it was stopped, from where the hello had ended
 pub record StoppedAfterHello (setup : Setup) (generation : ConnectionGeneration) (kind : ErrorKind) (old new : Checkpoint) : Type 0 where
   pub greeting : Greeting
-  pub middle : State
-  pub between : ℤ
-  pub hello : Reached (hello_plan setup) greeting old.state middle old.id between
+  pub middle : Point
+  pub hello : Reached (hello_plan setup) greeting old.point middle
   pub generation_is : generation ≡ generation_of setup.pending.generation greeting.description
-  pub stopped : LoginRefused setup greeting kind (checkpoint middle between old.ledgers) new ⊎ UnnamedAfterLogin setup greeting kind (checkpoint middle between old.ledgers) new
+  pub stopped : LoginRefused setup greeting kind (checkpoint middle old.ledgers) new ⊎ UnnamedAfterLogin setup greeting kind (checkpoint middle old.ledgers) new
 
 -- The phase says which part was stopped: the hello, with the pool's generation, which costs nothing, or what follows it, with
 -- the connection's.
 abbrev pub StoppedIn : HandshakePhase → Setup → ErrorKind → Checkpoint → Checkpoint → Type 0
-StoppedIn (PreHello generation) setup kind old new = (generation ≡ setup.pending.generation) × Stopped (hello_plan setup) kind old.state new.state old.id new.id × CostsNothing old.ledgers new.ledgers
+StoppedIn (PreHello generation) setup kind old new = (generation ≡ setup.pending.generation) × Stopped (hello_plan setup) kind old.point new.point × CostsNothing old.ledgers new.ledgers
 StoppedIn (PostHello generation) setup kind old new = StoppedAfterHello setup generation kind old new
 
 -- ---- what reply bytes call for

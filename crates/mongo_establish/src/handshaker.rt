@@ -48,7 +48,7 @@ impl Handshaker {
     ghost use Rattle.mongo_command.specs.Connection.{kept_fault};
     ghost use Rattle.mongo_command.specs.Conversation.{Said, Turn, refuses, Leads, LeftBy};
     ghost use Rattle.mongo_command.specs.EndsExchange.{footing};
-    ghost use Rattle.mongo_command.specs.Exchange.{CountsStay, DocumentRefused};
+    ghost use Rattle.mongo_command.specs.Exchange.{CountsStay, DocumentRefused, point};
     ghost use Rattle.mongo_scram.specs.Cache.{entries_of};
     ghost use Rattle.mongo_scram.specs.Costs.{ledgers};
     ghost use Rattle.mongo_establish.specs.Setup.{setup_over, checkpoint_with};
@@ -125,7 +125,7 @@ impl Handshaker {
             Leads (handshake_plan (setup_over connection.old (options_in self.now) (option_copied credential.entry) inputs.now.nonces state.old.ids)) bytes outcome commands taken unread →
             Unfailed (L.state link.old) (L.state link.new) →
             IfErr result (λ e. (e.kind ≡ OutOfMemory) ⊎ ((outcome ≡ refuses e.kind) × LeftBy commands unread
-            (L.state link.old) (L.state link.new) state.old.ids state.new.ids)) }
+            (point (L.state link.old) state.old.ids) (point (L.state link.new) state.new.ids))) }
 
         ensures entries { OnErr result (entries_of state.new.salted ≡ entries_of state.old.salted) }
         ensures counts { CountsStay (L.state link.old) (L.state link.new) }

@@ -4,7 +4,7 @@ use Rattle.mongo_wire.specs.declared.error.Error.{Error}
 use Rattle.mongo_wire.specs.declared.error.ErrorKind.{ErrorKind}
 use Rattle.mongo_wire.specs.Outside.{State}
 use Rattle.mongo_command.specs.Conversation.{Said, Turn, says, refuses, ends, Plan, saying, followed_by, plain_message, StoppedKeeping}
-use Rattle.mongo_command.specs.Exchange.{CountsStay, Exchanges, ExchangeRefused}
+use Rattle.mongo_command.specs.Exchange.{CountsStay, Exchanges, ExchangeRefused, point}
 use Rattle.mongo_command.proofs.Steps.{stopped_memory, stopped_later}
 use Rattle.mongo_command.proofs.Talked.{nothing_said, still_counts, exchange_stopped, turn_stopped}
 use Rattle.mongo_sasl.specs.Stops.{RefusedAtOnce, BeginsTooLong}
@@ -19,24 +19,24 @@ pub at_once_more : {A : Type 0} (plan other : Plan A) (kind : ErrorKind) → ((t
 at_once_more plan other kind more r = at_once_by plan other kind (more (refuses kind)) (λ said. more (says said)) r
 
 -- a command that is too long is refused before it is sent
-too_long_refused : {A : Type 0} (plan : Plan A) (kind : ErrorKind) (old : State) (before : ℤ) (b : BeginsTooLong plan kind) → ExchangeRefused kind b.said.maximum (plain_message b.said.document) old old before before None
+too_long_refused : {A : Type 0} (plan : Plan A) (kind : ErrorKind) (old : State) (before : ℤ) (b : BeginsTooLong plan kind) → ExchangeRefused kind b.said.maximum (plain_message b.said.document) (point old before) (point old before) None
 too_long_refused plan kind old before b =
-    subst (λ k. ExchangeRefused k b.said.maximum (plain_message b.said.document) old old before before None) (sym b.kind_is) (inl (b.long, record { link = refl; ids = refl; kept_is = refl }))
+    subst (λ k. ExchangeRefused k b.said.maximum (plain_message b.said.document) (point old before) (point old before) None) (sym b.kind_is) (inl (b.long, record { link = refl; ids = refl; kept_is = refl }))
 
 -- it leaves everything as it was
-pub at_once_keeping : {A : Type 0} (plan : Plan A) (kind : ErrorKind) (old : State) (before : ℤ) → RefusedAtOnce plan kind → StoppedKeeping plan kind old old before before None
+pub at_once_keeping : {A : Type 0} (plan : Plan A) (kind : ErrorKind) (old : State) (before : ℤ) → RefusedAtOnce plan kind → StoppedKeeping plan kind (point old before) (point old before) None
 at_once_keeping plan kind old before (inl is) = turn_stopped plan kind [] old old before before (nothing_said plan old before) (inl is)
 at_once_keeping plan kind old before (inr (inl memory)) = stopped_memory plan kind old before memory
 at_once_keeping plan kind old before (inr (inr b)) = exchange_stopped plan kind [] b.said old old old before before before None (nothing_said plan old before) b.turn (too_long_refused plan kind old before b) (still_counts old)
 
 -- a stop that leaves no fault, over a connection that keeps none
-pub keeping_none : {T A : Type 0} (r : Result T Error) (plan : Plan A) (old new : State) (before after : ℤ) (kept : Option ErrorKind) → kept ≡ None → IfErr r (λ e. StoppedKeeping plan e.kind old new before after None) → IfErr r (λ e. StoppedKeeping plan e.kind old new before after kept)
+pub keeping_none : {T A : Type 0} (r : Result T Error) (plan : Plan A) (old new : State) (before after : ℤ) (kept : Option ErrorKind) → kept ≡ None → IfErr r (λ e. StoppedKeeping plan e.kind (point old before) (point new after) None) → IfErr r (λ e. StoppedKeeping plan e.kind (point old before) (point new after) kept)
 keeping_none (Ok x) plan old new before after kept none stopped = tt
-keeping_none (Err e) plan old new before after kept none stopped = subst (StoppedKeeping plan e.kind old new before after) (sym none) stopped
+keeping_none (Err e) plan old new before after kept none stopped = subst (StoppedKeeping plan e.kind (point old before) (point new after)) (sym none) stopped
 
 -- after an exchange the plan of its reply refuses at once
 pub refused_later : {A : Type 0} (s : Said) (plan : List ℕ → Plan A) (reply : List ℕ) (kind : ErrorKind) (old new : State) (before after : ℤ)
-    → Exchanges s.maximum (plain_message s.document) old new before after reply → CountsStay old new → RefusedAtOnce (plan reply) kind → StoppedKeeping (saying s plan) kind old new before after None
+    → Exchanges s.maximum (plain_message s.document) (point old before) (point new after) reply → CountsStay old new → RefusedAtOnce (plan reply) kind → StoppedKeeping (saying s plan) kind (point old before) (point new after) None
 refused_later s plan reply kind old new before after e counts r = stopped_later s plan reply kind old new new before after after e counts (at_once_keeping (plan reply) kind new after r)
 
 -- of a plan and then the plan of its answer, either refuses at once

@@ -9,7 +9,7 @@ use Rattle.mongo_wire.specs.declared.fault.ArgumentFault.TheVariants.{Bson}
 use Rattle.mongo_wire.specs.declared.message.Message.{Message}
 use Rattle.mongo_wire.specs.Bytes.{next_id}
 use Rattle.mongo_wire.specs.Outside.{State}
-use Rattle.mongo_command.specs.Exchange.{SendRefused, BufferRefused}
+use Rattle.mongo_command.specs.Exchange.{SendRefused, BufferRefused, point}
 use Rattle.mongo_sasl.specs.EndsByScript.{Standing, DrawsOnce}
 
 -- ---- the next id is another one, and so is the one after that
@@ -42,7 +42,7 @@ module _ {L : Type 0} where
 
 -- ---- an exchange
 
-sent_draws : (kind : ErrorKind) (maximum : ℤ) (message : Message) (old new : State) (before after : ℤ) (kept : Option ErrorKind) → SendRefused kind maximum message old new before after kept → (after ≡ before) ⊎ (after ≡ next_id before)
+sent_draws : (kind : ErrorKind) (maximum : ℤ) (message : Message) (old new : State) (before after : ℤ) (kept : Option ErrorKind) → SendRefused kind maximum message (point old before) (point new after) kept → (after ≡ before) ⊎ (after ≡ next_id before)
 sent_draws (InvalidArgument (Bson TooLong)) maximum message old new before after kept refused = inl refused.1.ids
 sent_draws (InvalidArgument fault) maximum message old new before after kept refused = inl refused.2.ids
 sent_draws WriteFault maximum message old new before after kept refused = inr refused.1.drawn
@@ -51,7 +51,7 @@ sent_draws OutOfMemory maximum message old new before after kept (inr cut) = inr
 sent_draws kind maximum message old new before after kept refused = absurd refused
 
 -- one that was refused draws at most one
-pub refused_draws : {L : Type 0} (kind : ErrorKind) (maximum : ℤ) (message : Message) (left taken : State) (kept : Option ErrorKind) (old new : Standing L) → BufferRefused kind maximum message left taken old.id new.id kept old.buffer new.buffer → DrawsOnce old new
+pub refused_draws : {L : Type 0} (kind : ErrorKind) (maximum : ℤ) (message : Message) (left taken : State) (kept : Option ErrorKind) (old new : Standing L) → BufferRefused kind maximum message (point left old.id) (point taken new.id) kept old.buffer new.buffer → DrawsOnce old new
 refused_draws kind maximum message left taken kept old new (inl unsent) =
     elim (sent_draws kind maximum message left taken old.id new.id kept unsent.0) [ inl same ↦ record { drawn = inl (same, unsent.1) } | inr next ↦ record { drawn = inr next } ]
 refused_draws kind maximum message left taken kept old new (inr cleared) = record { drawn = inr cleared.0.sends.drawn }

@@ -8,6 +8,7 @@ use Rattle.mongo_wire.specs.Buffer.{frames_taken, held_document, IsFrameTaken}
 use Rattle.mongo_wire.specs.Outside.{State, Unfailed, risen}
 use Rattle.mongo_command.specs.Connection.{kept_fault}
 use Rattle.mongo_command.specs.Conversation.{Said, Turn, refuses, ends, Plan, Reached, Stopped, Leads}
+use Rattle.mongo_command.specs.Exchange.{point}
 use Rattle.mongo_command.proofs.Leads.{only_end, only_refusal}
 use Rattle.mongo_sasl.specs.EndsByScript.{Standing, StopsBy, EndsByScript, HoldsItsReply}
 use Rattle.mongo_sasl.specs.Login.{HasLogin, AnswersLed, EndsByReply}
@@ -19,15 +20,15 @@ use Rattle.mongo_sasl.proofs.StopsBy.{not_both_faults, stopped_by}
 
 module _ {A : Type 0} (plan : Plan A) (login : List (List ℕ) → List (List ℕ) → Type 0) (maximum : ℤ) (joins : JoinsLogin plan login maximum) (old new : State) (before after : ℤ) where
   -- over told bytes an answer is what they call for
-  led : (r : Result (Unit {0}) Error) (bytes taken unread : List ℕ) (outcome : Turn A) (commands : List Said) → OnOk r ((answer : A) × Reached plan answer old new before after) → IfErr r (λ e. Stopped plan e.kind old new before after) → old.left ≡ Some bytes → Leads plan bytes outcome commands taken unread
-      → Unfailed old new → AnswersLed r outcome commands unread old new before after
+  led : (r : Result (Unit {0}) Error) (bytes taken unread : List ℕ) (outcome : Turn A) (commands : List Said) → OnOk r ((answer : A) × Reached plan answer (point old before) (point new after)) → IfErr r (λ e. Stopped plan e.kind (point old before) (point new after)) → old.left ≡ Some bytes → Leads plan bytes outcome commands taken unread
+      → Unfailed old new → AnswersLed r outcome commands unread (point old before) (point new after)
   led (Ok done) bytes taken unread outcome commands reached stopped is l unfailed =
       let end = only_end plan reached.0 outcome old new before after bytes commands taken unread joins.one reached.1 is l in
       (reached.0, end.0, end.1)
   led (Err e) bytes taken unread outcome commands reached stopped is l unfailed = only_refusal plan e.kind outcome old new before after bytes commands taken unread joins.one stopped is l unfailed
 
   -- where a login stands at their front, only memory is wanted
-  completed : (r : Result (Unit {0}) Error) (bytes : List ℕ) → IfErr r (λ e. Stopped plan e.kind old new before after) → old.left ≡ Some bytes → HasLogin login maximum before bytes
+  completed : (r : Result (Unit {0}) Error) (bytes : List ℕ) → IfErr r (λ e. Stopped plan e.kind (point old before) (point new after)) → old.left ≡ Some bytes → HasLogin login maximum before bytes
       → Unfailed old new → IfErr r (λ e. e.kind ≡ OutOfMemory)
   completed (Ok done) bytes stopped is has unfailed = tt
   completed (Err e) bytes stopped is has unfailed =
@@ -39,7 +40,7 @@ module _ {A : Type 0} (plan : Plan A) (login : List (List ℕ) → List (List �
       ]
 
 module _ {L A : Type 0} (state : L → State) (plan : Plan A) (login : List (List ℕ) → List (List ℕ) → Type 0) (maximum : ℤ) (joins : JoinsLogin plan login maximum) (old new : Standing L) where
-  pub ends_by_script : (r : Result (Unit {0}) Error) → OnOk r ((answer : A) × Reached plan answer (state old.link) (state new.link) old.id new.id) → (kept_fault old.connection ≡ None → OnOk r (kept_fault new.connection ≡ None))
+  pub ends_by_script : (r : Result (Unit {0}) Error) → OnOk r ((answer : A) × Reached plan answer (point (state old.link) old.id) (point (state new.link) new.id)) → (kept_fault old.connection ≡ None → OnOk r (kept_fault new.connection ≡ None))
       → ((kind : ErrorKind) → kept_fault old.connection ≡ Some kind → OnOk r ((answer : A) × plan [] (ends answer))) → StopsBy state plan r old new → EndsByScript state plan login maximum r old new
   ends_by_script r reached faultless at_once stops = record {
     accepted = reached;
@@ -54,17 +55,17 @@ module _ {L A : Type 0} (state : L → State) (plan : Plan A) (login : List (Lis
   pub refused_by_script : (r : Result (Unit {0}) Error) (e : Error) → IsErrAnd r (λ x. x ≡ e) → StopsBy {T = Unit {0}} state plan (Err e) old new → EndsByScript state plan login maximum r old new
   refused_by_script r e handed stops = handed_on (λ x. EndsByScript state plan login maximum x old new) r e handed (ends_by_script (Err e) tt (λ none. tt) (λ kind is. tt) stops)
 
-  reached_by : (answer : A) (document : List ℕ) (r : Result (Unit {0}) Error) → OnOk r (EndsByReply plan answer document (state old.link) (state new.link) old.id new.id) → OnOk r ((answer : A) × Reached plan answer (state old.link) (state new.link) old.id new.id)
+  reached_by : (answer : A) (document : List ℕ) (r : Result (Unit {0}) Error) → OnOk r (EndsByReply plan answer document (point (state old.link) old.id) (point (state new.link) new.id)) → OnOk r ((answer : A) × Reached plan answer (point (state old.link) old.id) (point (state new.link) new.id))
   reached_by answer document (Ok done) is = (answer, ends_reached plan answer document (state old.link) (state new.link) old.id new.id is)
   reached_by answer document (Err e) is = tt
 
   -- one that its one exchange ended, or that the reply refused
-  pub once_by_script : (answer : A) (document : List ℕ) (r : Result (Unit {0}) Error) → OnOk r (EndsByReply plan answer document (state old.link) (state new.link) old.id new.id) → kept_fault old.connection ≡ None → kept_fault new.connection ≡ None → StopsBy state plan r old new → EndsByScript state plan login maximum r old new
+  pub once_by_script : (answer : A) (document : List ℕ) (r : Result (Unit {0}) Error) → OnOk r (EndsByReply plan answer document (point (state old.link) old.id) (point (state new.link) new.id)) → kept_fault old.connection ≡ None → kept_fault new.connection ≡ None → StopsBy state plan r old new → EndsByScript state plan login maximum r old new
   once_by_script answer document r reply was none stops = ends_by_script r (reached_by answer document r reply) (λ faultless. on_answer r _ none) (λ kind is. absurd (not_both_faults (kept_fault old.connection) kind was is)) stops
 
 -- what an exchange took into a buffer, where its reply ended the login
 pub holds_its_reply : {L A : Type 0} (state : L → State) (plan : Plan A) (answer : A) (maximum : ℤ) (old new : Standing L) (r : Result (Unit {0}) Error)
-    → frames_taken new.buffer ≡ risen (frames_taken old.buffer) → IsFrameTaken maximum (state old.link) (state new.link) new.buffer → OnOk r (EndsByReply plan answer (held_document new.buffer) (state old.link) (state new.link) old.id new.id)
+    → frames_taken new.buffer ≡ risen (frames_taken old.buffer) → IsFrameTaken maximum (state old.link) (state new.link) new.buffer → OnOk r (EndsByReply plan answer (held_document new.buffer) (point (state old.link) old.id) (point (state new.link) new.id))
     → OnOk r (HoldsItsReply state plan answer maximum old new)
 holds_its_reply state plan answer maximum old new (Ok done) frames taken reply = record { frames = frames; taken = taken; reply = reply }
 holds_its_reply state plan answer maximum old new (Err e) frames taken reply = tt

@@ -12,7 +12,7 @@ use Rattle.mongo_wire.specs.Buffer.{HoldsNothing, HoldsFrame, IsFrameTaken}
 use Rattle.mongo_wire.specs.Outside.{State}
 use Rattle.mongo_command.specs.Connection.{kept_fault, KeepsRest}
 use Rattle.mongo_command.specs.Conversation.{Plan}
-use Rattle.mongo_command.specs.Exchange.{frame_maximum, SendRefused, BufferRefused}
+use Rattle.mongo_command.specs.Exchange.{frame_maximum, SendRefused, BufferRefused, point}
 use Rattle.mongo_sasl.specs.EndsByScript.{Standing, HoldsLast, HoldsNoReply, LeavesInBuffer, StopsBy}
 
 -- ---- bytes that are kept
@@ -28,7 +28,7 @@ kept_consumed (Some x) (Some y) None bs p q = absurd q
 kept_consumed (Some x) (Some y) (Some z) bs p q = sym p ∙ q
 
 -- a message that wasn't sent leaves them
-sent_unread : (kind : ErrorKind) (maximum : ℤ) (message : Message) (old new : State) (before after : ℤ) (kept : Option ErrorKind) → SendRefused kind maximum message old new before after kept → new.left ≡ old.left
+sent_unread : (kind : ErrorKind) (maximum : ℤ) (message : Message) (old new : State) (before after : ℤ) (kept : Option ErrorKind) → SendRefused kind maximum message (point old before) (point new after) kept → new.left ≡ old.left
 sent_unread (InvalidArgument (Bson TooLong)) maximum message old new before after kept refused = ap (λ (s : State). s.left) refused.1.link
 sent_unread (InvalidArgument fault) maximum message old new before after kept refused = ap (λ (s : State). s.left) refused.2.link
 sent_unread WriteFault maximum message old new before after kept refused = refused.1.unread
@@ -58,7 +58,7 @@ module _ {L : Type 0} (state : L → State) where
 
   -- its message wasn't sent, or no reply came
   pub refused_leaves : (kind : ErrorKind) (maximum : ℤ) (message : Message) (old new : Standing L)
-      → BufferRefused kind maximum message (state old.link) (state new.link) old.id new.id (kept_fault new.connection) old.buffer new.buffer → LeavesInBuffer state old new
+      → BufferRefused kind maximum message (point (state old.link) old.id) (point (state new.link) new.id) (kept_fault new.connection) old.buffer new.buffer → LeavesInBuffer state old new
   refused_leaves kind maximum message old new (inl unsent) =
       as_it_was old new unsent.1 (kept_bytes (state old.link).left (state new.link).left (sent_unread kind maximum message (state old.link) (state new.link) old.id new.id (kept_fault new.connection) unsent.0))
   refused_leaves kind maximum message old new (inr cleared) = no_reply_left old new (record { nothing = cleared.1.nothing; fault = kind; kept_is = cleared.0.kept_is })

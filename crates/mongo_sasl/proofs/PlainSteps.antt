@@ -7,7 +7,7 @@ use Rattle.mongo_wire.specs.declared.error.ErrorKind.{ErrorKind}
 use Rattle.mongo_wire.specs.declared.error.ErrorKind.TheVariants.{OutOfMemory}
 use Rattle.mongo_wire.specs.Outside.{State}
 use Rattle.mongo_command.specs.Conversation.{Event, Turn, plain_message, saying, StoppedKeeping}
-use Rattle.mongo_command.specs.Exchange.{DocumentRefused, CountsStay, Exchanges}
+use Rattle.mongo_command.specs.Exchange.{DocumentRefused, CountsStay, Exchanges, point}
 use Rattle.mongo_command.proofs.Steps.{stopped_more}
 use Rattle.mongo_sasl.specs.declared.mechanism.AuthMechanism.TheVariants.{Plain}
 use Rattle.mongo_sasl.specs.Commands.{start_elements}
@@ -31,7 +31,7 @@ module _ (handed : PlainHanded) (user : PlainUser) (is_user : IsPlainUser handed
   after_tests past turn h = inr (no_plain_row handed.credential user is_user, (user, is_user, h))
 
   -- a stop after them
-  pub user_stopped : {kept : Option ErrorKind} (kind : ErrorKind) (old new : State) (before after : ℤ) → StoppedKeeping (saying (plain_said handed user) plain_heard) kind old new before after kept → StoppedKeeping (plain_plan handed) kind old new before after kept
+  pub user_stopped : {kept : Option ErrorKind} (kind : ErrorKind) (old new : State) (before after : ℤ) → StoppedKeeping (saying (plain_said handed user) plain_heard) kind (point old before) (point new after) kept → StoppedKeeping (plain_plan handed) kind (point old before) (point new after) kept
   user_stopped kind old new before after s = stopped_more (saying (plain_said handed user) plain_heard) (plain_plan handed) kind old new before after after_tests s
 
   -- the command wasn't built
@@ -42,10 +42,10 @@ module _ (handed : PlainHanded) (user : PlainUser) (is_user : IsPlainUser handed
       (omega (arith, length-enclosed (flat_map spell (start_elements Plain (plain_payload user.username user.password))))) unbuilt)
 
   -- the reply ends the login
-  pub plain_replied : {T : Type 0} (r : Result T Error) (reply held : List ℕ) (old new : State) (before after : ℤ) → reply ≡ held → Exchanges handed.maximum (plain_message (plain_said handed user).document) old new before after reply → CountsStay old new → OnOk r (IsFinished reply) → OnOk r (EndsByReply (plain_plan handed) tt held old new before after)
+  pub plain_replied : {T : Type 0} (r : Result T Error) (reply held : List ℕ) (old new : State) (before after : ℤ) → reply ≡ held → Exchanges handed.maximum (plain_message (plain_said handed user).document) (point old before) (point new after) reply → CountsStay old new → OnOk r (IsFinished reply) → OnOk r (EndsByReply (plain_plan handed) tt held (point old before) (point new after))
   plain_replied (Ok x) reply held old new before after same e counts is =
       let none = no_plain_row handed.credential user is_user in
-      subst (λ document. EndsByReply (plain_plan handed) tt document old new before after) same
+      subst (λ document. EndsByReply (plain_plan handed) tt document (point old before) (point new after)) same
       (ends_by_reply (plain_plan handed) tt (plain_said handed user) reply old new before after
       (inr (none, (user, is_user, refl)))
       (inr (none, (user, is_user, inr (sasl_reply_no_row reply is.sasl is.is_reply, (is.sasl, is.is_reply, inr (finished_no_row is.sasl is.done, refl)))))) e counts)
@@ -57,7 +57,7 @@ module _ (handed : PlainHanded) (user : PlainUser) (is_user : IsPlainUser handed
   heard_refused reply kind (inr memory) = inr (inl memory)
 
   -- it doesn't
-  pub plain_refused : {T : Type 0} (r : Result T Error) (reply : List ℕ) (old new : State) (before after : ℤ) → Exchanges handed.maximum (plain_message (plain_said handed user).document) old new before after reply → CountsStay old new → IfErr r (λ e. FinishedRow reply e.kind ⊎ (e.kind ≡ OutOfMemory)) → IfErr r (λ e. StoppedKeeping (plain_plan handed) e.kind old new before after None)
+  pub plain_refused : {T : Type 0} (r : Result T Error) (reply : List ℕ) (old new : State) (before after : ℤ) → Exchanges handed.maximum (plain_message (plain_said handed user).document) (point old before) (point new after) reply → CountsStay old new → IfErr r (λ e. FinishedRow reply e.kind ⊎ (e.kind ≡ OutOfMemory)) → IfErr r (λ e. StoppedKeeping (plain_plan handed) e.kind (point old before) (point new after) None)
   plain_refused (Ok x) reply old new before after e counts h = tt
   plain_refused (Err x) reply old new before after e counts h =
       user_stopped x.kind old new before after (refused_later (plain_said handed user) plain_heard reply x.kind old new before after e counts (heard_refused reply x.kind h))

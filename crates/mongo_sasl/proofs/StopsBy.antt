@@ -11,7 +11,7 @@ use Rattle.mongo_command.specs.declared.command.Command.{Command}
 use Rattle.mongo_command.specs.Connection.{kept_fault}
 use Rattle.mongo_command.specs.Conversation.{Plan, StoppedKeeping, Stopped}
 use Rattle.mongo_command.specs.EndsExchange.{Footing, footing, EndsExchange}
-use Rattle.mongo_command.specs.Exchange.{command_message, frame_maximum, BufferRefused, Exchanges, ExchangeRefused}
+use Rattle.mongo_command.specs.Exchange.{command_message, frame_maximum, BufferRefused, Exchanges, ExchangeRefused, point}
 use Rattle.mongo_command.proofs.EndsExchange.{HasRefusalCause}
 use Rattle.mongo_command.proofs.Rest.{keeps_all}
 use Rattle.mongo_command.proofs.Talked.{still_counts}
@@ -42,7 +42,7 @@ was_faultless state command x old new ends = none_kept (kept_fault old.connectio
 
 -- the buffer that it leaves, where it was refused
 abbrev pub LeavesBuffer : {L : Type 0} → (L → State) → Command → ErrorKind → Standing L → Standing L → Type 0
-LeavesBuffer state command kind old new = BufferRefused kind (frame_maximum old.connection.stream_description) (command_message command) (state old.link) (state new.link) old.id new.id (kept_fault new.connection) old.buffer new.buffer
+LeavesBuffer state command kind old new = BufferRefused kind (frame_maximum old.connection.stream_description) (command_message command) (point (state old.link) old.id) (point (state new.link) new.id) (kept_fault new.connection) old.buffer new.buffer
 
 module _ {L U : Type 0} (state : L → State) (command : Command) (old new : Standing L) (e : Error) (ends : EndsExchange {T = U} state ExchangeRefused command (Err e) (footing_of old) (footing_of new))
     (untouched : (kind : ErrorKind) → kept_fault old.connection ≡ Some kind → new.buffer ≡ old.buffer) (buffer : kept_fault old.connection ≡ None → LeavesBuffer state command e.kind old new) where
@@ -63,7 +63,7 @@ module _ {L U : Type 0} (state : L → State) (command : Command) (old new : Sta
   leaves_refused = leaves_by (kept_fault old.connection) refl
 
 -- its reply was taken
-pub draws_exchanged : {L : Type 0} (maximum : ℤ) (message : Message) (left taken : State) (reply : List ℕ) (old new : Standing L) → Exchanges maximum message left taken old.id new.id reply → DrawsOnce old new
+pub draws_exchanged : {L : Type 0} (maximum : ℤ) (message : Message) (left taken : State) (reply : List ℕ) (old new : Standing L) → Exchanges maximum message (point left old.id) (point taken new.id) reply → DrawsOnce old new
 draws_exchanged maximum message left taken reply old new e = record { drawn = inr e.sends.drawn }
 
 -- nothing was done
@@ -71,7 +71,7 @@ pub draws_none : {L : Type 0} (old : Standing L) → DrawsOnce old old
 draws_none old = record { drawn = inl (refl, refl) }
 
 module _ {L T A : Type 0} (state : L → State) (plan : Plan A) where
-  here_keeping : (r : Result T Error) (old : Standing L) → IfErr r (λ e. RefusedAtOnce plan e.kind) → IfErr r (λ e. StoppedKeeping plan e.kind (state old.link) (state old.link) old.id old.id None)
+  here_keeping : (r : Result T Error) (old : Standing L) → IfErr r (λ e. RefusedAtOnce plan e.kind) → IfErr r (λ e. StoppedKeeping plan e.kind (point (state old.link) old.id) (point (state old.link) old.id) None)
   here_keeping r old = IfErr-weaker r _ _ (λ e. at_once_keeping plan e.kind (state old.link) old.id)
 
   here_answers : (r : Result T Error) (kind : ErrorKind) → IfErr r (λ e. RefusedAtOnce plan e.kind) → IfErr r (λ e. ((e.kind ≡ kind) × BeginsWithCommand plan) ⊎ RefusedAtOnce plan e.kind)
@@ -92,7 +92,7 @@ module _ {L T A : Type 0} (state : L → State) (plan : Plan A) where
   -- the plan's first command wasn't sent, or no reply was received
   pub at_exchange : {U : Type 0} (command : Command) (old new : Standing L) (e : Error) → BeginsWithCommand plan → EndsExchange {T = U} state ExchangeRefused command (Err e) (footing_of old) (footing_of new)
       → ((kind : ErrorKind) → kept_fault old.connection ≡ Some kind → new.buffer ≡ old.buffer) → (kept_fault old.connection ≡ None → LeavesBuffer state command e.kind old new)
-      → (HasRefusalCause state command ExchangeRefused e.kind (footing_of old) (footing_of new) → StoppedKeeping plan e.kind (state old.link) (state new.link) old.id new.id (kept_fault new.connection)) → StopsBy {T = T} state plan (Err e) old new
+      → (HasRefusalCause state command ExchangeRefused e.kind (footing_of old) (footing_of new) → StoppedKeeping plan e.kind (point (state old.link) old.id) (point (state new.link) new.id) (kept_fault new.connection)) → StopsBy {T = T} state plan (Err e) old new
   at_exchange {U = U} command old new e begins ends untouched buffer stops = record {
     refused = λ faultless. stops (ends.refused faultless);
     untouched = λ kind is. let same = ends.kept kind is in (same.1, same.2, untouched kind is, same.3);
@@ -105,7 +105,7 @@ module _ {L T A : Type 0} (state : L → State) (plan : Plan A) where
 
   -- the reply was received, and may be refused
   pub after_exchange : {U : Type 0} (command : Command) (x : U) (maximum : ℤ) (message : Message) (reply : List ℕ) (old new : Standing L) (r : Result T Error) → EndsExchange state ExchangeRefused command (Ok x) (footing_of old) (footing_of new)
-      → Exchanges maximum message (state old.link) (state new.link) old.id new.id reply → IsFrameTaken (frame_maximum old.connection.stream_description) (state old.link) (state new.link) new.buffer → IfErr r (λ e. StoppedKeeping plan e.kind (state old.link) (state new.link) old.id new.id None) → StopsBy state plan r old new
+      → Exchanges maximum message (point (state old.link) old.id) (point (state new.link) new.id) reply → IsFrameTaken (frame_maximum old.connection.stream_description) (state old.link) (state new.link) new.buffer → IfErr r (λ e. StoppedKeeping plan e.kind (point (state old.link) old.id) (point (state new.link) new.id) None) → StopsBy state plan r old new
   after_exchange command x maximum message reply old new r ends e taken stopped = record {
     refused = λ faultless. keeping_none r plan _ _ _ _ (kept_fault new.connection) ends.faultless stopped;
     untouched = λ kind is. not_replied x kind _ (ends.kept kind is).0;
@@ -125,5 +125,5 @@ module _ {L T A : Type 0} (state : L → State) (plan : Plan A) where
   handed_stops old new r e handed stops = handed_on (λ x. StopsBy state plan x old new) r e handed stops
 
   -- where the plan was stopped
-  pub stopped_by : (r : Result T Error) (old new : Standing L) → StopsBy state plan r old new → kept_fault old.connection ≡ None → IfErr r (λ e. Stopped plan e.kind (state old.link) (state new.link) old.id new.id)
+  pub stopped_by : (r : Result T Error) (old new : Standing L) → StopsBy state plan r old new → kept_fault old.connection ≡ None → IfErr r (λ e. Stopped plan e.kind (point (state old.link) old.id) (point (state new.link) new.id))
   stopped_by r old new stops faultless = IfErr-weaker r _ _ (λ e s. (kept_fault new.connection, s)) (stops.refused faultless)

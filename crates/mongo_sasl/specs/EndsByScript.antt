@@ -12,7 +12,7 @@ use Rattle.mongo_wire.specs.Outside.{State, Unfailed, risen}
 use Rattle.mongo_command.specs.declared.connection.Connection.{Connection}
 use Rattle.mongo_command.specs.Connection.{kept_fault, KeepsRest}
 use Rattle.mongo_command.specs.Conversation.{Said, Turn, ends, Plan, Reached, StoppedKeeping, Leads}
-use Rattle.mongo_command.specs.Exchange.{frame_maximum, CountsStay}
+use Rattle.mongo_command.specs.Exchange.{frame_maximum, CountsStay, Point, point}
 use Rattle.mongo_sasl.specs.Stops.{BeginsWithCommand, RefusedAtOnce}
 use Rattle.mongo_sasl.specs.Login.{HasLogin, AnswersLed, EndsByReply}
 
@@ -25,6 +25,10 @@ pub record Standing (L : Type 0) : Type 0 where
 
 abbrev pub standing : {L : Type 0} → Connection → L → ℤ → FrameBuffer → Standing L
 standing connection link id buffer = record { connection = connection; link = link; id = id; buffer = buffer }
+
+-- the point of a conversation that it stands at
+abbrev pub point_at : {L : Type 0} → (L → State) → Standing L → Point
+point_at state at = point (state at.link) at.id
 
 -- At most one id was drawn: none, and then nothing was sent and the buffer is what it was, or the next one.
 pub record DrawsOnce {L : Type 0} (old new : Standing L) : Type 0 where
@@ -56,7 +60,7 @@ pub record LeavesInBuffer {L : Type 0} (state : L → State) (old new : Standing
 pub record StopsBy {L T A : Type 0} (state : L → State) (plan : Plan A) (result : Result T Error) (old new : Standing L) : Type 0 where
   -- A refusal says why it comes and what it left: the connection keeps the fault of an exchange that failed, where that left
   -- one, and else none.
-  pub refused : kept_fault old.connection ≡ None → IfErr result (λ e. StoppedKeeping plan e.kind (state old.link) (state new.link) old.id new.id (kept_fault new.connection))
+  pub refused : kept_fault old.connection ≡ None → IfErr result (λ e. StoppedKeeping plan e.kind (point_at state old) (point_at state new) (kept_fault new.connection))
   -- over a connection that keeps a fault nothing is done
   pub untouched : (kind : ErrorKind) → kept_fault old.connection ≡ Some kind → (new.link ≡ old.link) × (new.id ≡ old.id) × (new.buffer ≡ old.buffer) × (kept_fault new.connection ≡ Some kind)
   -- and a refusal answers that fault in place of the plan's first command, or comes before it
@@ -73,7 +77,7 @@ pub record StopsBy {L T A : Type 0} (state : L → State) (plan : Plan A) (resul
 -- A login ends as its mechanism's script demands, which is given twice: as a plan, and as whole lists of commands and replies.
 pub record EndsByScript {L A : Type 0} (state : L → State) (plan : Plan A) (IsLogin : List (List ℕ) → List (List ℕ) → Type 0) (maximum : ℤ) (result : Result (Unit {0}) Error) (old new : Standing L) : Type 0 where
   -- exactly the script's commands were written and its replies taken
-  pub accepted : OnOk result ((answer : A) × Reached plan answer (state old.link) (state new.link) old.id new.id)
+  pub accepted : OnOk result ((answer : A) × Reached plan answer (point_at state old) (point_at state new))
   -- an accepted login leaves the connection without a fault
   pub faultless : kept_fault old.connection ≡ None → OnOk result (kept_fault new.connection ≡ None)
   -- over a connection that keeps one, a login is accepted only where its script ends at once, which none does that begins with a
@@ -85,10 +89,10 @@ pub record EndsByScript {L A : Type 0} (state : L → State) (plan : Plan A) (Is
       → Unfailed (state old.link) (state new.link) → IfErr result (λ e. e.kind ≡ OutOfMemory)
   -- what the bytes left call for is answered, and the link is left as that says
   pub exact : (bytes taken unread : List ℕ) (outcome : Turn A) (commands : List Said) → kept_fault old.connection ≡ None → (state old.link).left ≡ Some bytes → Leads plan bytes outcome commands taken unread
-      → Unfailed (state old.link) (state new.link) → AnswersLed result outcome commands unread (state old.link) (state new.link) old.id new.id
+      → Unfailed (state old.link) (state new.link) → AnswersLed result outcome commands unread (point_at state old) (point_at state new)
 
 -- The reply of a login's one exchange passed through the buffer, which holds just that.
 pub record HoldsItsReply {L A : Type 0} (state : L → State) (plan : Plan A) (answer : A) (maximum : ℤ) (old new : Standing L) : Type 0 where
   pub frames : frames_taken new.buffer ≡ risen (frames_taken old.buffer)
   pub taken : IsFrameTaken maximum (state old.link) (state new.link) new.buffer
-  pub reply : EndsByReply plan answer (held_document new.buffer) (state old.link) (state new.link) old.id new.id
+  pub reply : EndsByReply plan answer (held_document new.buffer) (point_at state old) (point_at state new)

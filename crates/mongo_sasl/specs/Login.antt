@@ -3,8 +3,8 @@ use Rattle.std.specs.Prelude.{◌≡◌, ℕ, ℤ, ◌⊎◌, Result, Ok, Err, L
 use Rattle.mongo_wire.specs.declared.error.Error.{Error}
 use Rattle.mongo_wire.specs.declared.error.ErrorKind.TheVariants.{OutOfMemory}
 use Rattle.mongo_wire.specs.Bytes.{IsSentWithin, IsWholeWithin}
-use Rattle.mongo_wire.specs.Outside.{State}
 use Rattle.mongo_command.specs.Conversation.{Said, exchanged, Turn, refuses, ends, Plan, Talked, LeftBy}
+use Rattle.mongo_command.specs.Exchange.{Point}
 
 -- There are commands and replies of a login: the commands can be sent, and the replies' frames stand at the front of the bytes.
 pub record HasLogin (IsLogin : List (List ℕ) → List (List ℕ) → Type 0) (maximum first_id : ℤ) (bytes : List ℕ) : Type 0 where
@@ -20,12 +20,12 @@ pub record HasLogin (IsLogin : List (List ℕ) → List (List ℕ) → Type 0) (
 
 -- An answer by what the bytes lead to: just that end or that refusal, and the link is left as it says. Want of memory may
 -- come in place of it.
-abbrev pub AnswersLed : {T A : Type 0} → Result T Error → Turn A → List Said → List ℕ → State → State → ℤ → ℤ → Type 0
-AnswersLed {T} {A} (Ok accepted) outcome commands unread old new before after = (answer : A) × (outcome ≡ ends answer) × LeftBy commands unread old new before after
-AnswersLed (Err e) outcome commands unread old new before after = (e.kind ≡ OutOfMemory) ⊎ ((outcome ≡ refuses e.kind) × LeftBy commands unread old new before after)
+abbrev pub AnswersLed : {T A : Type 0} → Result T Error → Turn A → List Said → List ℕ → Point → Point → Type 0
+AnswersLed {T} {A} (Ok accepted) outcome commands unread old new = (answer : A) × (outcome ≡ ends answer) × LeftBy commands unread old new
+AnswersLed (Err e) outcome commands unread old new = (e.kind ≡ OutOfMemory) ⊎ ((outcome ≡ refuses e.kind) × LeftBy commands unread old new)
 
 -- The plan was followed to its end by one exchange, and this document was the reply.
-pub record EndsByReply {A : Type 0} (plan : Plan A) (answer : A) (document : List ℕ) (old new : State) (before after : ℤ) : Type 0 where
+pub record EndsByReply {A : Type 0} (plan : Plan A) (answer : A) (document : List ℕ) (old new : Point) : Type 0 where
   pub said : Said
-  pub talked : Talked plan (exchanged said document ∷ []) old new before after
+  pub talked : Talked plan (exchanged said document ∷ []) old new
   pub answer_is : plan (exchanged said document ∷ []) (ends answer)

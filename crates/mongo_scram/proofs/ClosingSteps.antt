@@ -14,6 +14,7 @@ use Rattle.mongo_scram.specs.declared.messages.ClientFinal.{ClientFinal}
 use Rattle.mongo_scram.specs.Client.{bare_of, message_of, final_of, auth_message_of, final_conversation, final_source_of, final_api_of}
 use Rattle.mongo_scram.specs.Commands.{final_command}
 use Rattle.mongo_command.specs.Command.{command_document}
+use Rattle.mongo_command.specs.Exchange.{point}
 use Rattle.mongo_scram.specs.Costs.{EndsLogin, CarriesValidFinal}
 use Rattle.mongo_scram.specs.Messages.{transcript, close_message, verifier}
 use Rattle.mongo_scram.specs.Plan.{Handed, Challenge, message_by, salted_by, auth_message_by, close_by, verifier_by, close_said, closing, last_exchange}
@@ -62,16 +63,16 @@ same_closing handed c tag final maximum same is =
     λ i. let said : Said = record { maximum = same i; document = command_document (final_command (conversation i) (source i) (message i) (api i)) } in (said, conversation i, verifier (digest_of handed.version) (salted i) (auth i))
 
 pub closing_exchange_ends : (handed : Handed) (c : Challenge) (tag : List ℕ) (final : ClientFinal) (maximum : ℤ) (document : List ℕ) (old new : State) (before after : ℤ) → maximum ≡ handed.maximum → IsFinal handed c tag final
-    → EndsByReply (last_exchange (final_said final maximum) (final_conversation final) (verifier (digest_of handed.version) tag (auth_message_of final)) c) c document old new before after → EndsByReply (closing handed c) c document old new before after
-closing_exchange_ends handed c tag final maximum document old new before after same is = subst (λ (x : Closing). EndsByReply (last_exchange x.0 x.1 x.2 c) c document old new before after) (same_closing handed c tag final maximum same is)
+    → EndsByReply (last_exchange (final_said final maximum) (final_conversation final) (verifier (digest_of handed.version) tag (auth_message_of final)) c) c document (point old before) (point new after) → EndsByReply (closing handed c) c document (point old before) (point new after)
+closing_exchange_ends handed c tag final maximum document old new before after same is = subst (λ (x : Closing). EndsByReply (last_exchange x.0 x.1 x.2 c) c document (point old before) (point new after)) (same_closing handed c tag final maximum same is)
 
 pub closing_taken : (handed : Handed) (maximum : ℤ) (old new : State) (buffer : FrameBuffer) → maximum ≡ handed.maximum → IsFrameTaken maximum old new buffer → IsFrameTaken handed.maximum old new buffer
 closing_taken handed maximum old new buffer same = subst (λ m. IsFrameTaken m old new buffer) same
 
 -- a stop of the last exchange is one of the closing, and so is a refusal before it
 pub closing_stopped : {kept : Option ErrorKind} (handed : Handed) (c : Challenge) (tag : List ℕ) (final : ClientFinal) (maximum : ℤ) (kind : ErrorKind) (old new : State) (before after : ℤ) → maximum ≡ handed.maximum → IsFinal handed c tag final
-    → StoppedKeeping (last_exchange (final_said final maximum) (final_conversation final) (verifier (digest_of handed.version) tag (auth_message_of final)) c) kind old new before after kept → StoppedKeeping (closing handed c) kind old new before after kept
-closing_stopped {kept = kept} handed c tag final maximum kind old new before after same is = subst (λ (x : Closing). StoppedKeeping (last_exchange x.0 x.1 x.2 c) kind old new before after kept) (same_closing handed c tag final maximum same is)
+    → StoppedKeeping (last_exchange (final_said final maximum) (final_conversation final) (verifier (digest_of handed.version) tag (auth_message_of final)) c) kind (point old before) (point new after) kept → StoppedKeeping (closing handed c) kind (point old before) (point new after) kept
+closing_stopped {kept = kept} handed c tag final maximum kind old new before after same is = subst (λ (x : Closing). StoppedKeeping (last_exchange x.0 x.1 x.2 c) kind (point old before) (point new after) kept) (same_closing handed c tag final maximum same is)
 
 pub closing_refused : (handed : Handed) (c : Challenge) (tag : List ℕ) (final : ClientFinal) (maximum : ℤ) (kind : ErrorKind) → maximum ≡ handed.maximum → IsFinal handed c tag final
     → RefusedAtOnce (last_exchange (final_said final maximum) (final_conversation final) (verifier (digest_of handed.version) tag (auth_message_of final)) c) kind → RefusedAtOnce (closing handed c) kind

@@ -7,7 +7,7 @@ use Rattle.mongo_wire.specs.declared.error.ErrorKind.{ErrorKind}
 use Rattle.mongo_wire.specs.Outside.{State}
 use Rattle.mongo_command.specs.Connection.{kept_fault, KeepsRest}
 use Rattle.mongo_command.specs.Conversation.{Reached}
-use Rattle.mongo_command.specs.Exchange.{CountsStay}
+use Rattle.mongo_command.specs.Exchange.{CountsStay, point}
 use Rattle.mongo_sasl.specs.EndsByScript.{Standing, LeavesInBuffer, StopsBy}
 use Rattle.mongo_sasl.proofs.EndsByScript.{ends_by_script}
 use Rattle.mongo_sasl.proofs.Handed.{handed_on, on_answer}
@@ -66,7 +66,7 @@ module _ {L : Type 0} (state : L → State) (handed : Handed) (old new : Standin
   stopped_scram r e passed stopped at_once faultless entries untouched buffer leaves rest counts =
       refused_scram r e passed (λ none. subst (λ kept. StopsScram handed e.kind kept before after) (sym (faultless none)) stopped) (λ kind is. inr (at_once kind is)) entries untouched buffer leaves rest counts
 
-  reached : (r : Result (Unit {0}) Error) → OnOk r (Accepted handed new.buffer before after) → OnOk r ((c : Challenge) × Reached (scram_plan handed) c (state old.link) (state new.link) old.id new.id)
+  reached : (r : Result (Unit {0}) Error) → OnOk r (Accepted handed new.buffer before after) → OnOk r ((c : Challenge) × Reached (scram_plan handed) c (point (state old.link) old.id) (point (state new.link) new.id))
   reached (Ok done) accepted = (accepted.challenge, accepted_reached handed new.buffer before after accepted)
   reached (Err e) accepted = tt
 

@@ -11,7 +11,7 @@ use Rattle.mongo_wire.specs.Outside.{State}
 use Rattle.mongo_command.specs.declared.connection.Connection.{Connection}
 use Rattle.mongo_command.specs.Connection.{kept_fault}
 use Rattle.mongo_command.specs.declared.command.Command.{Command}
-use Rattle.mongo_command.specs.Exchange.{command_message, DocumentRefused, CountsStay, Exchanges, ExchangeRefused}
+use Rattle.mongo_command.specs.Exchange.{command_message, DocumentRefused, CountsStay, Exchanges, ExchangeRefused, point}
 use Rattle.mongo_command.specs.Conversation.{Plan, plain_message, saying, StoppedKeeping}
 use Rattle.mongo_command.proofs.Steps.{stopped_saying}
 use Rattle.mongo_sasl.specs.Commands.{start_elements}
@@ -67,15 +67,15 @@ start_unbuilt handed user first kind is unbuilt =
     (subst (DocumentRefused kind) (same_body handed user first is) unbuilt)
 
 pub start_unanswered : (handed : Handed) (user : User) (first : ClientFirst) (command : Command) (kind : ErrorKind) (old new : State) (before after : ℤ) (kept : Option ErrorKind) → IsPlannedFirst handed user first → command ≡ first_command handed.version (includes_db first) (first_source first) (message_of first) (server_api_of first) → CountsStay old new
-    → ExchangeRefused kind handed.maximum (command_message command) old new before after kept → StoppedKeeping (saying (start_said handed user) (challenged handed user)) kind old new before after kept
+    → ExchangeRefused kind handed.maximum (command_message command) (point old before) (point new after) kept → StoppedKeeping (saying (start_said handed user) (challenged handed user)) kind (point old before) (point new after) kept
 start_unanswered handed user first command kind old new before after kept start is counts refused =
-    stopped_saying (start_said handed user) (challenged handed user) kind old new before after kept (subst (λ x. ExchangeRefused kind handed.maximum (command_message x) old new before after kept) (is ∙ same_command handed user first start) refused) counts
+    stopped_saying (start_said handed user) (challenged handed user) kind old new before after kept (subst (λ x. ExchangeRefused kind handed.maximum (command_message x) (point old before) (point new after) kept) (is ∙ same_command handed user first start) refused) counts
 
 -- the exchange was that of the command
 pub start_exchanged : (handed : Handed) (user : User) (first : ClientFirst) (command : Command) (old new : State) (before after : ℤ) (reply : List ℕ) → IsPlannedFirst handed user first → command ≡ first_command handed.version (includes_db first) (first_source first) (message_of first) (server_api_of first)
-    → Exchanges handed.maximum (command_message command) old new before after reply → Exchanges handed.maximum (plain_message (start_said handed user).document) old new before after reply
+    → Exchanges handed.maximum (command_message command) (point old before) (point new after) reply → Exchanges handed.maximum (plain_message (start_said handed user).document) (point old before) (point new after) reply
 start_exchanged handed user first command old new before after reply start is e =
-    subst (λ x. Exchanges handed.maximum (command_message x) old new before after reply) (is ∙ same_command handed user first start) e
+    subst (λ x. Exchanges handed.maximum (command_message x) (point old before) (point new after) reply) (is ∙ same_command handed user first start) e
 
 -- ---- its reply
 
@@ -83,19 +83,19 @@ reply_refused : (handed : Handed) (user : User) (reply : List ℕ) (kind : Error
 reply_refused handed user reply kind (inl row) = inl (inl row)
 reply_refused handed user reply kind (inr memory) = inr (inl memory)
 
-pub start_refused : (handed : Handed) (user : User) (reply held : List ℕ) (kind : ErrorKind) (old new : State) (before after : ℤ) → reply ≡ held → Exchanges handed.maximum (plain_message (start_said handed user).document) old new before after held → CountsStay old new → FirstReplyRow reply kind ⊎ (kind ≡ OutOfMemory)
-    → StoppedKeeping (saying (start_said handed user) (challenged handed user)) kind old new before after None
+pub start_refused : (handed : Handed) (user : User) (reply held : List ℕ) (kind : ErrorKind) (old new : State) (before after : ℤ) → reply ≡ held → Exchanges handed.maximum (plain_message (start_said handed user).document) (point old before) (point new after) held → CountsStay old new → FirstReplyRow reply kind ⊎ (kind ≡ OutOfMemory)
+    → StoppedKeeping (saying (start_said handed user) (challenged handed user)) kind (point old before) (point new after) None
 start_refused handed user reply held kind old new before after same e counts row =
     refused_later (start_said handed user) (challenged handed user) held kind old new before after e counts
     (reply_refused handed user held kind (subst (λ r. FirstReplyRow r kind ⊎ (kind ≡ OutOfMemory)) same row))
 
 pub start_opens : (handed : Handed) (user : User) (opened : Opened) (reply held : List ℕ) (old new : State) (before after : ℤ) → handed.speculated ≡ None → IsPlannedFirst handed user opened.client_first → nonce_of opened.client_first ≡ nonce_by handed → reply ≡ held
-    → Exchanges handed.maximum (plain_message (start_said handed user).document) old new before after held → CountsStay old new → CarriesFirst reply opened.server_first → Opens handed user opened old new before after
+    → Exchanges handed.maximum (plain_message (start_said handed user).document) (point old before) (point new after) held → CountsStay old new → CarriesFirst reply opened.server_first → Opens handed user opened (point old before) (point new after)
 start_opens handed user opened reply held old new before after none start nonce same e counts carries = record {
   message = start.message;
   nonce = nonce;
   reply = held;
-  replied = subst (λ s. Replies s (start_said handed user) held old new before after) (sym none) (e, counts);
+  replied = subst (λ s. Replies s (start_said handed user) held (point old before) (point new after)) (sym none) (e, counts);
   carries = subst (λ r. CarriesFirst r opened.server_first) same carries;
 }
 

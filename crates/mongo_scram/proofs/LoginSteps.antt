@@ -7,6 +7,7 @@ use Rattle.mongo_wire.specs.declared.frame_buffer.FrameBuffer.{FrameBuffer}
 use Rattle.mongo_wire.specs.Buffer.{held_document, IsFrameTaken}
 use Rattle.mongo_wire.specs.Outside.{State, risen}
 use Rattle.mongo_command.specs.Conversation.{Plan, Reached, StoppedKeeping}
+use Rattle.mongo_command.specs.Exchange.{point}
 use Rattle.mongo_command.proofs.FollowedBy.{stopped_first, stopped_second}
 use Rattle.mongo_sasl.specs.Login.{EndsByReply}
 use Rattle.mongo_sasl.specs.Stops.{RefusedAtOnce}
@@ -30,11 +31,11 @@ use Rattle.mongo_scram.proofs.ScramPlan.{challenge_by_first}
 -- the first exchange is over, and the key was derived where it has no entry
 pub record IsBetween (handed : Handed) (user : User) (o : Opened) (key : SaltedKey) (tag : List ℕ) (old middle : Checkpoint) : Type 0 where
   pub is_user : IsUser handed.credential user
-  pub opens : Opens handed user o old.state middle.state old.id middle.id
+  pub opens : Opens handed user o old.point middle.point
   pub key_is : key ≡ key_for handed.version user o.server_first
   pub answered : IsAnswered o.server_first (nonce_of o.client_first) handed.max_iterations key tag old.ledgers middle.ledgers
 
-pub between_by : (handed : Handed) (user : User) (o : Opened) (key : SaltedKey) (tag nonce : List ℕ) (old middle : Checkpoint) → IsUser handed.credential user → Opens handed user o old.state middle.state old.id middle.id → nonce ≡ nonce_of o.client_first → key ≡ key_for handed.version user o.server_first
+pub between_by : (handed : Handed) (user : User) (o : Opened) (key : SaltedKey) (tag nonce : List ℕ) (old middle : Checkpoint) → IsUser handed.credential user → Opens handed user o old.point middle.point → nonce ≡ nonce_of o.client_first → key ≡ key_for handed.version user o.server_first
     → IsAnswered o.server_first nonce handed.max_iterations key tag old.ledgers middle.ledgers → IsBetween handed user o key tag old middle
 between_by handed user o key tag nonce old middle is_user opens same key_is answered =
     record { is_user = is_user; opens = opens; key_is = key_is; answered = subst (λ n. IsAnswered o.server_first n handed.max_iterations key tag old.ledgers middle.ledgers) same answered }
@@ -47,9 +48,9 @@ kept_derives key first last kept same (inl had) = inl (had.0, record { steps = h
 kept_derives key first last kept same (inr derived) = inr (derived.0, record { steps = derived.1.steps; rounds_are = same ∙ derived.1.rounds_are })
 
 -- a plan that was followed to its end, where memory ran out then
-reached_stopped : {A : Type 0} (plan : Plan A) (answer : A) (kind : ErrorKind) (old new : State) (before after : ℤ) → kind ≡ OutOfMemory → Reached plan answer old new before after → StoppedKeeping plan kind old new before after None
+reached_stopped : {A : Type 0} (plan : Plan A) (answer : A) (kind : ErrorKind) (old new : State) (before after : ℤ) → kind ≡ OutOfMemory → Reached plan answer (point old before) (point new after) → StoppedKeeping plan kind (point old before) (point new after) None
 reached_stopped plan answer kind old new before after memory r =
-    record { events = r.events; middle = new; between = after; talked = r.talked; given_is = r.given_is; stop = inl (record { cause = inr memory; link = refl; ids = refl }, refl) }
+    record { events = r.events; middle = point new after; talked = r.talked; given_is = r.given_is; stop = inl (record { cause = inr memory; link = refl; ids = refl }, refl) }
 
 abbrev Kept : SaltedKey → SaltedCache → SaltedCache → Type 0
 Kept key old new = (HasEntry old key × (entries_of new ≡ entries_of old)) ⊎ Adds (entries_of old) (entries_of new) (key, salted_of key)
@@ -62,12 +63,12 @@ kept_entries key first last kept same (inr adds) = inr (subst (λ es. Adds es (e
 
 -- and what that leaves the connection to keep
 abbrev pub StopsScram : Handed → ErrorKind → Option ErrorKind → Checkpoint → Checkpoint → Type 0
-StopsScram handed kind kept old new = StoppedScram handed kind old new × StoppedKeeping (scram_plan handed) kind old.state new.state old.id new.id kept
+StopsScram handed kind kept old new = StoppedScram handed kind old new × StoppedKeeping (scram_plan handed) kind old.point new.point kept
 
 -- in its opening
-pub stopped_early : {kept : Option ErrorKind} (handed : Handed) (kind : ErrorKind) (old new : Checkpoint) → StoppedKeeping (opening handed) kind old.state new.state old.id new.id kept → CostsNothing old.ledgers new.ledgers → StopsScram handed kind kept old new
+pub stopped_early : {kept : Option ErrorKind} (handed : Handed) (kind : ErrorKind) (old new : Checkpoint) → StoppedKeeping (opening handed) kind old.point new.point kept → CostsNothing old.ledgers new.ledgers → StopsScram handed kind kept old new
 stopped_early {kept = kept} handed kind old new s nothing =
-    (inl ((kept, s), nothing), stopped_first (opening handed) (closing handed) kind old.state new.state old.id new.id s)
+    (inl ((kept, s), nothing), stopped_first (opening handed) (closing handed) kind old.point.state new.point.state old.point.id new.point.id s)
 
 -- ---- from between the exchanges
 
@@ -81,37 +82,36 @@ module _ (handed : Handed) (user : User) (o : Opened) (key : SaltedKey) (tag : L
   usable : IsUsable (key_by handed challenge)
   usable = subst IsUsable is.key_is is.answered.usable
 
-  opening_followed : Reached (opening handed) challenge old.state middle.state old.id middle.id
-  opening_followed = opening_reached handed user o old.state middle.state old.id middle.id is.is_user is.opens is.answered.valid usable.password
+  opening_followed : Reached (opening handed) challenge old.point middle.point
+  opening_followed = opening_reached handed user o old.point.state middle.point.state old.point.id middle.point.id is.is_user is.opens is.answered.valid usable.password
 
   derived : Derives (key_by handed challenge) old.ledgers middle.ledgers
   derived = subst (λ k. Derives k old.ledgers middle.ledgers) is.key_is is.answered.derived
 
   -- a stop of the closing
   pub stopped_late : {kept : Option ErrorKind} (kind : ErrorKind) (new : State) (after : ℤ) (last : SaltedCache) → Derives (key_by handed challenge) old.ledgers (ledgers middle.ledgers.steps last) → SameEntries old.ledgers (ledgers middle.ledgers.steps last)
-      → StoppedKeeping (closing handed challenge) kind middle.state new middle.id after kept → StopsScram handed kind kept old (checkpoint new after (ledgers middle.ledgers.steps last))
+      → StoppedKeeping (closing handed challenge) kind middle.point (point new after) kept → StopsScram handed kind kept old (checkpoint (point new after) (ledgers middle.ledgers.steps last))
   stopped_late {kept = kept} kind new after last derives entries s = (
     inr (record {
       challenge = challenge;
-      middle = middle.state;
-      between = middle.id;
+      middle = middle.point;
       opened = opening_followed;
       stopped = (kept, s);
       derived = inl derives;
       entries = entries;
     }),
-    stopped_second (opening handed) (closing handed) challenge kind old.state middle.state new old.id middle.id after opening_followed s,
+    stopped_second (opening handed) (closing handed) challenge kind old.point.state middle.point.state new old.point.id middle.point.id after opening_followed s,
   )
 
   -- one before anything is put in
-  pub stopped_between : {kept : Option ErrorKind} (kind : ErrorKind) (new : State) (after : ℤ) → StoppedKeeping (closing handed challenge) kind middle.state new middle.id after kept → StopsScram handed kind kept old (checkpoint new after middle.ledgers)
+  pub stopped_between : {kept : Option ErrorKind} (kind : ErrorKind) (new : State) (after : ℤ) → StoppedKeeping (closing handed challenge) kind middle.point (point new after) kept → StopsScram handed kind kept old (checkpoint (point new after) middle.ledgers)
   stopped_between kind new after s = stopped_late kind new after middle.ledgers.cache derived is.answered.entries s
 
   -- what was derived by a first round that went with the hello, before its last message is said
   pub close_unsaid : IsSome handed.speculated → CloseUnsaid handed old.ledgers middle.ledgers
   close_unsaid some = record {
     challenge = challenge;
-    opened = opening_at_once handed user o old.state middle.state old.id middle.id some is.is_user is.opens is.answered.valid usable.password;
+    opened = opening_at_once handed user o old.point.state middle.point.state old.point.id middle.point.id some is.is_user is.opens is.answered.valid usable.password;
     derived = derived;
     entries = is.answered.entries;
   }
@@ -122,20 +122,19 @@ module _ (handed : Handed) (user : User) (o : Opened) (key : SaltedKey) (tag : L
 
   -- ---- after the last exchange
 
-  pub stopped_last : {T : Type 0} (r : Result T Error) (document : List ℕ) (new : State) (after : ℤ) (kept : SaltedCache) → EndsByReply (closing handed challenge) challenge document middle.state new middle.id after → rounds_of kept ≡ rounds_of middle.ledgers.cache
-      → OnErr r (entries_of kept ≡ entries_of middle.ledgers.cache) → IfErr r (λ e. e.kind ≡ OutOfMemory) → IfErr r (λ e. StopsScram handed e.kind None old (checkpoint new after (ledgers middle.ledgers.steps kept)))
+  pub stopped_last : {T : Type 0} (r : Result T Error) (document : List ℕ) (new : State) (after : ℤ) (kept : SaltedCache) → EndsByReply (closing handed challenge) challenge document middle.point (point new after) → rounds_of kept ≡ rounds_of middle.ledgers.cache
+      → OnErr r (entries_of kept ≡ entries_of middle.ledgers.cache) → IfErr r (λ e. e.kind ≡ OutOfMemory) → IfErr r (λ e. StopsScram handed e.kind None old (checkpoint (point new after) (ledgers middle.ledgers.steps kept)))
   stopped_last (Ok x) document new after kept closed rounds entries memory = tt
   stopped_last (Err e) document new after kept closed rounds entries memory =
       stopped_late e.kind new after kept (kept_derives (key_by handed challenge) old.ledgers middle.ledgers kept rounds derived) (entries ∙ is.answered.entries)
-      (reached_stopped (closing handed challenge) challenge e.kind middle.state new middle.id after memory (ends_reached (closing handed challenge) challenge document middle.state new middle.id after closed))
+      (reached_stopped (closing handed challenge) challenge e.kind middle.point.state new middle.point.id after memory (ends_reached (closing handed challenge) challenge document middle.point.state new middle.point.id after closed))
 
-  pub accepted_by : {T : Type 0} (r : Result T Error) (buffer : FrameBuffer) (new : State) (after : ℤ) (kept : SaltedCache) → IsFrameTaken handed.maximum middle.state new buffer → EndsByReply (closing handed challenge) challenge (held_document buffer) middle.state new middle.id after
-      → rounds_of kept ≡ rounds_of middle.ledgers.cache → EndsLogin handed challenge (held_document buffer) → OnOk r (Kept key middle.ledgers.cache kept) → OnOk r (Accepted handed buffer old (checkpoint new after (ledgers middle.ledgers.steps kept)))
+  pub accepted_by : {T : Type 0} (r : Result T Error) (buffer : FrameBuffer) (new : State) (after : ℤ) (kept : SaltedCache) → IsFrameTaken handed.maximum middle.point.state new buffer → EndsByReply (closing handed challenge) challenge (held_document buffer) middle.point (point new after)
+      → rounds_of kept ≡ rounds_of middle.ledgers.cache → EndsLogin handed challenge (held_document buffer) → OnOk r (Kept key middle.ledgers.cache kept) → OnOk r (Accepted handed buffer old (checkpoint (point new after) (ledgers middle.ledgers.steps kept)))
   accepted_by (Ok x) buffer new after kept taken closed rounds ends entries =
       record {
         challenge = challenge;
-        middle = middle.state;
-        between = middle.id;
+        middle = middle.point;
         opened = opening_followed;
         taken = taken;
         closed = closed;

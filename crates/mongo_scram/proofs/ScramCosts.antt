@@ -12,10 +12,10 @@ use Rattle.mongo_scram.specs.Plan.{Handed, start_said, close_said, opened, openi
 use Rattle.mongo_scram.specs.Costs.{Ledgers, Checkpoint, Accepted, StartUnsaid, FaultCosts, ScramRefused}
 use Rattle.mongo_scram.proofs.OneRow.{no_credential_row}
 
-pub accepted_reached : (handed : Handed) (buffer : FrameBuffer) (old new : Checkpoint) → (is : Accepted handed buffer old new) → Reached (scram_plan handed) is.challenge old.state new.state old.id new.id
+pub accepted_reached : (handed : Handed) (buffer : FrameBuffer) (old new : Checkpoint) → (is : Accepted handed buffer old new) → Reached (scram_plan handed) is.challenge old.point new.point
 accepted_reached handed buffer old new is =
-    reached_both (opening handed) (closing handed) is.challenge is.challenge old.state is.middle new.state old.id is.between new.id is.opened
-    (ends_reached (closing handed is.challenge) is.challenge (held_document buffer) is.middle new.state is.between new.id is.closed)
+    reached_both (opening handed) (closing handed) is.challenge is.challenge old.point.state is.middle.state new.point.state old.point.id is.middle.id new.point.id is.opened
+    (ends_reached (closing handed is.challenge) is.challenge (held_document buffer) is.middle.state new.point.state is.middle.id new.point.id is.closed)
 
 -- ---- over a connection that keeps a fault
 

@@ -6,8 +6,8 @@ use Rattle.mongo_wire.specs.declared.error.ErrorKind.{ErrorKind}
 use Rattle.mongo_wire.specs.declared.error.ErrorKind.TheVariants.{OutOfMemory}
 use Rattle.mongo_wire.specs.declared.frame_buffer.FrameBuffer.{FrameBuffer}
 use Rattle.mongo_wire.specs.Buffer.{held_document, IsFrameTaken}
-use Rattle.mongo_wire.specs.Outside.{State}
 use Rattle.mongo_command.specs.Conversation.{ends, HasNone, Reached, Stopped}
+use Rattle.mongo_command.specs.Exchange.{Point}
 use Rattle.mongo_sasl.specs.Stops.{RefusedAtOnce}
 use Rattle.mongo_sasl.specs.Login.{EndsByReply}
 use Rattle.mongo_scram.specs.declared.cache.SaltedCache.{SaltedCache}
@@ -41,14 +41,13 @@ pub record Ledgers : Type 0 where
 abbrev pub ledgers : ℕ → SaltedCache → Ledgers
 ledgers steps cache = record { steps = steps; cache = cache }
 
--- how a login stands at a moment: its link, the next id, and its counter and cache
+-- where a login is at a moment: the point of its conversation, and its counter and cache
 pub record Checkpoint : Type 0 where
-  pub state : State
-  pub id : ℤ
+  pub point : Point
   pub ledgers : Ledgers
 
-abbrev pub checkpoint : State → ℤ → Ledgers → Checkpoint
-checkpoint state id ledgers = record { state = state; id = id; ledgers = ledgers }
+abbrev pub checkpoint : Point → Ledgers → Checkpoint
+checkpoint point ledgers = record { point = point; ledgers = ledgers }
 
 -- so many rounds were derived and counted
 pub record Counts (rounds : ℕ) (old new : Ledgers) : Type 0 where
@@ -81,11 +80,10 @@ EndsLogin handed c = CarriesValidFinal c.first.conversation_id (verifier_by hand
 -- was taken; the key was derived where it had no entry, and has one now.
 pub record Accepted (handed : Handed) (buffer : FrameBuffer) (old new : Checkpoint) : Type 0 where
   pub challenge : Challenge
-  pub middle : State
-  pub between : ℤ
-  pub opened : Reached (opening handed) challenge old.state middle old.id between
-  pub taken : IsFrameTaken handed.maximum middle new.state buffer
-  pub closed : EndsByReply (closing handed challenge) challenge (held_document buffer) middle new.state between new.id
+  pub middle : Point
+  pub opened : Reached (opening handed) challenge old.point middle
+  pub taken : IsFrameTaken handed.maximum middle.state new.point.state buffer
+  pub closed : EndsByReply (closing handed challenge) challenge (held_document buffer) middle new.point
   pub ends : EndsLogin handed challenge (held_document buffer)
   pub derived : Derives (key_by handed challenge) old.ledgers new.ledgers
   pub kept : (HasEntry old.ledgers.cache (key_by handed challenge) × SameEntries old.ledgers new.ledgers) ⊎ Adds (entries_of old.ledgers.cache) (entries_of new.ledgers.cache) (key_by handed challenge, salted_of (key_by handed challenge))
@@ -93,17 +91,16 @@ pub record Accepted (handed : Handed) (buffer : FrameBuffer) (old new : Checkpoi
 -- the opening was followed to its end, and the closing was stopped
 pub record StoppedClosing (handed : Handed) (kind : ErrorKind) (old new : Checkpoint) : Type 0 where
   pub challenge : Challenge
-  pub middle : State
-  pub between : ℤ
-  pub opened : Reached (opening handed) challenge old.state middle old.id between
-  pub stopped : Stopped (closing handed challenge) kind middle new.state between new.id
+  pub middle : Point
+  pub opened : Reached (opening handed) challenge old.point middle
+  pub stopped : Stopped (closing handed challenge) kind middle new.point
   -- memory may have run out before the key was derived
   pub derived : Derives (key_by handed challenge) old.ledgers new.ledgers ⊎ ((kind ≡ OutOfMemory) × Counts 0 old.ledgers new.ledgers)
   pub entries : SameEntries old.ledgers new.ledgers
 
 -- Where a login was stopped: in the opening, before anything was derived, or in the closing.
 abbrev pub StoppedScram : Handed → ErrorKind → Checkpoint → Checkpoint → Type 0
-StoppedScram handed kind old new = (Stopped (opening handed) kind old.state new.state old.id new.id × CostsNothing old.ledgers new.ledgers) ⊎ StoppedClosing handed kind old new
+StoppedScram handed kind old new = (Stopped (opening handed) kind old.point new.point × CostsNothing old.ledgers new.ledgers) ⊎ StoppedClosing handed kind old new
 
 -- ---- over a connection that keeps a fault
 

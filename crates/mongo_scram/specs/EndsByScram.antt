@@ -4,14 +4,14 @@ use Rattle.mongo_wire.specs.declared.error.Error.{Error}
 use Rattle.mongo_wire.specs.declared.error.ErrorKind.{ErrorKind}
 use Rattle.mongo_wire.specs.Outside.{State}
 use Rattle.mongo_command.specs.Connection.{kept_fault}
-use Rattle.mongo_sasl.specs.EndsByScript.{Standing, EndsByScript}
+use Rattle.mongo_sasl.specs.EndsByScript.{Standing, EndsByScript, point_at}
 use Rattle.mongo_scram.specs.Costs.{Ledgers, Checkpoint, checkpoint, SameEntries, Accepted, StoppedScram, FaultCosts, ScramRefused}
 use Rattle.mongo_scram.specs.Plan.{Handed, scram_plan}
 use Rattle.mongo_scram.specs.Script.{IsScramLogin}
 
 -- a login that stands so, with its counter and cache
 abbrev pub checkpoint_at : {L : Type 0} → (L → State) → Standing L → Ledgers → Checkpoint
-checkpoint_at state standing ledgers = checkpoint (state standing.link) standing.id ledgers
+checkpoint_at state standing ledgers = checkpoint (point_at state standing) ledgers
 
 -- A login that was handed this ends so.
 pub record EndsByScram {L : Type 0} (state : L → State) (handed : Handed) (result : Result (Unit {0}) Error) (old new : Standing L) (earlier later : Ledgers) : Type 0 where

@@ -8,9 +8,9 @@ use Rattle.mongo_wire.specs.Outside.{State, risen}
 use Rattle.mongo_command.specs.declared.connection.Connection.{Connection}
 use Rattle.mongo_command.specs.Command.{command_document}
 use Rattle.mongo_command.specs.Connection.{kept_fault}
-use Rattle.mongo_command.specs.Exchange.{Exchanges, CountsStay}
+use Rattle.mongo_command.specs.Exchange.{Exchanges, CountsStay, Point}
 use Rattle.mongo_command.specs.Conversation.{Said, plain_message}
-use Rattle.mongo_sasl.specs.EndsByScript.{Standing}
+use Rattle.mongo_sasl.specs.EndsByScript.{Standing, point_at}
 use Rattle.mongo_sasl.specs.Login.{EndsByReply}
 use Rattle.mongo_scram.specs.declared.cache.SaltedKey.{SaltedKey}
 use Rattle.mongo_scram.specs.declared.first_round.FirstRound.{FirstRound}
@@ -44,16 +44,16 @@ pub record LeavesOneExchange (old new : Connection) (before after : FrameBuffer)
 -- ---- the first exchange
 
 -- the reply to the client's first message: that of a first round that went with the hello, or that of an exchange
-abbrev pub Replies : Option Speculated → Said → List ℕ → State → State → ℤ → ℤ → Type 0
-Replies None said reply old new before after = Exchanges said.maximum (plain_message said.document) old new before after reply × CountsStay old new
-Replies (Some speculated) said reply old new before after = (reply ≡ speculated.reply) × (new ≡ old) × (after ≡ before)
+abbrev pub Replies : Option Speculated → Said → List ℕ → Point → Point → Type 0
+Replies None said reply old new = Exchanges said.maximum (plain_message said.document) old new reply × CountsStay old.state new.state
+Replies (Some speculated) said reply old new = (reply ≡ speculated.reply) × (new.state ≡ old.state) × (new.id ≡ old.id)
 
 -- the client's first message was answered by the server's
-pub record Opens (handed : Handed) (user : User) (opened : Opened) (old new : State) (before after : ℤ) : Type 0 where
+pub record Opens (handed : Handed) (user : User) (opened : Opened) (old new : Point) : Type 0 where
   pub message : message_of opened.client_first ≡ message_by handed user
   pub nonce : nonce_of opened.client_first ≡ nonce_by handed
   pub reply : List ℕ
-  pub replied : Replies handed.speculated (start_said handed user) reply old new before after
+  pub replied : Replies handed.speculated (start_said handed user) reply old new
   pub carries : CarriesFirst reply opened.server_first
 
 -- the count of a buffer's frames after it
@@ -81,7 +81,7 @@ final_said final maximum = record { maximum = maximum; document = command_docume
 -- The last exchange was made, whatever the challenge: its reply, whose frame the buffer holds, carries a message that is taken.
 pub record EndsLastExchange {L : Type 0} (state : L → State) (said : Said) (conversation : OwnedValue) (owed : List ℕ) (old new : Standing L) : Type 0 where
   pub taken : IsFrameTaken said.maximum (state old.link) (state new.link) new.buffer
-  pub ends : (c : Challenge) → EndsByReply (last_exchange said conversation owed c) c (held_document new.buffer) (state old.link) (state new.link) old.id new.id
+  pub ends : (c : Challenge) → EndsByReply (last_exchange said conversation owed c) c (held_document new.buffer) (point_at state old) (point_at state new)
   pub message : CarriesValidFinal conversation owed (held_document new.buffer)
 
 -- why it carries none that is: the row of the reply, else that of the message

@@ -64,7 +64,7 @@ impl<'a> ScramLogin<'a> {
     ghost use Rattle.mongo_wire.specs.declared.error.ErrorKind.{ErrorKind};
     ghost use Rattle.mongo_wire.specs.Buffer.{frames_taken};
     ghost use Rattle.mongo_command.specs.Connection.{kept_fault};
-    ghost use Rattle.mongo_command.specs.Exchange.{frame_maximum};
+    ghost use Rattle.mongo_command.specs.Exchange.{frame_maximum, point};
     ghost use Rattle.mongo_sasl.specs.EndsByScript.{standing, DrawsOnce, StopsBy};
     ghost use Rattle.mongo_scram.specs.Client.{speculated_of, user_of};
     ghost use Rattle.mongo_scram.specs.Plan.{opened};
@@ -82,7 +82,7 @@ impl<'a> ScramLogin<'a> {
         first_round: Option<FirstRound>,
     ) -> Result<Opened, Error>
         ensures opened { IfOk result (λ o. Opens (handed_by self.entry first_round (frame_maximum connection.old.stream_description)) (user_of user.now) o
-            (L.state link.old) (L.state link.new) ids.old ids.new) }
+            (point (L.state link.old) ids.old) (point (L.state link.new) ids.new)) }
         ensures stops { StopsBy L.state (opened (speculated_of first_round) (handed_by self.entry first_round (frame_maximum connection.old.stream_description)) (user_of user.now)) result
             (standing connection.old link.old ids.old buffer.old) (standing connection.new link.new ids.new buffer.new) }
         ensures drawn { DrawsOnce (standing connection.old link.old ids.old buffer.old) (standing connection.new link.new ids.new buffer.new) }
@@ -108,7 +108,7 @@ impl<'a> ScramLogin<'a> {
         user: &ClientAuthInfo<'_>,
     ) -> Result<Opened, Error>
         ensures opened { IfOk result (λ o. Opens (handed_by self.entry None (frame_maximum connection.old.stream_description)) (user_of user.now) o
-            (L.state link.old) (L.state link.new) ids.old ids.new) }
+            (point (L.state link.old) ids.old) (point (L.state link.new) ids.new)) }
         ensures stops { StopsBy L.state (opened None (handed_by self.entry None (frame_maximum connection.old.stream_description)) (user_of user.now)) result
             (standing connection.old link.old ids.old buffer.old) (standing connection.new link.new ids.new buffer.new) }
         ensures drawn { DrawsOnce (standing connection.old link.old ids.old buffer.old) (standing connection.new link.new ids.new buffer.new) }

@@ -6,16 +6,16 @@ use Rattle.mongo_wire.specs.declared.error.ErrorKind.{ErrorKind}
 use Rattle.mongo_wire.specs.declared.error.ErrorKind.TheVariants.{InvalidArgument, WriteFault, OutOfMemory}
 use Rattle.mongo_wire.specs.declared.fault.ArgumentFault.TheVariants.{Bson}
 use Rattle.mongo_wire.specs.declared.message.Message.{Message}
-use Rattle.mongo_command.specs.Exchange.{DocumentRefused, SendRefused, Unsent, sent_fault}
+use Rattle.mongo_command.specs.Exchange.{DocumentRefused, SendRefused, Unsent, sent_fault, point}
 use Rattle.mongo_command.specs.Fault.{is_kept}
 use Rattle.mongo_command.proofs.connection.Connection.send.Goals as goal
 
-not_made : (kind : ErrorKind) (maximum : ℤ) (message : Message) (old new : State) (before after : ℤ) (kept : Option ErrorKind) → DocumentRefused kind message.document_payload → Unsent old new before after kept → SendRefused kind maximum message old new before after kept
+not_made : (kind : ErrorKind) (maximum : ℤ) (message : Message) (old new : State) (before after : ℤ) (kept : Option ErrorKind) → DocumentRefused kind message.document_payload → Unsent (point old before) (point new after) kept → SendRefused kind maximum message (point old before) (point new after) kept
 not_made (InvalidArgument (Bson TooLong)) maximum message old new before after kept refused unsent = (refused, unsent)
 not_made OutOfMemory maximum message old new before after kept refused unsent = inl unsent
 not_made kind maximum message old new before after kept refused unsent = absurd refused
 
-fault_kept : (kind : ErrorKind) (maximum : ℤ) (message : Message) (old new : State) (before after : ℤ) (kept : Option ErrorKind) → SendRefused kind maximum message old new before after kept → IfSome (sent_fault kind) (λ fault. is_kept fault ≡ true)
+fault_kept : (kind : ErrorKind) (maximum : ℤ) (message : Message) (old new : State) (before after : ℤ) (kept : Option ErrorKind) → SendRefused kind maximum message (point old before) (point new after) kept → IfSome (sent_fault kind) (λ fault. is_kept fault ≡ true)
 fault_kept (InvalidArgument fault) maximum message old new before after kept refused = tt
 fault_kept WriteFault maximum message old new before after kept refused = refl
 fault_kept OutOfMemory maximum message old new before after kept refused = refl

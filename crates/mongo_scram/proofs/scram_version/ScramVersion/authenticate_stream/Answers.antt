@@ -79,7 +79,7 @@ returns-in_err-client_final-clause-login g c =
     let o = c.in_ok-opened.opened in
     let opening = c.in_ok-opened.ensures in
     let derived = c.in_ok-derived.derived in
-    let between = between_by handed user o derived.key derived.salted c.nonce.result.now (checkpoint _ _ (ledgers c.args.steps.now c.args.salted.now)) (checkpoint _ _ (ledgers c.answer.new.steps c.answer.new.cache)) c.in_ok-user.ensures.user opening.opened c.nonce.ensures c.in_ok-derived.ensures.key c.in_ok-derived.ensures.answered in
+    let between = between_by handed user o derived.key derived.salted c.nonce.result.now (checkpoint _ (ledgers c.args.steps.now c.args.salted.now)) (checkpoint _ (ledgers c.answer.new.steps c.answer.new.cache)) c.in_ok-user.ensures.user opening.opened c.nonce.ensures c.in_ok-derived.ensures.key c.in_ok-derived.ensures.answered in
     let e = c.in_err-client_final.field-0.0 in
     stopped_scram _ handed _ _ _ _ c.from_residual-in_err-client_final.result e c.from_residual-in_err-client_final.ensures.1
     (stopped_between handed user o derived.key derived.salted _ _ between e.kind _ _ (at_once_keeping (closing handed (challenge_by_first user o.server_first)) e.kind _ _ (inr (inl c.in_err-client_final.ensures.refused))))
@@ -98,7 +98,7 @@ returns-in_err-close-clause-login g c =
     let o = c.in_ok-opened.opened in
     let opening = c.in_ok-opened.ensures in
     let derived = c.in_ok-derived.derived in
-    let between = between_by handed user o derived.key derived.salted c.nonce.result.now (checkpoint _ _ (ledgers c.args.steps.now c.args.salted.now)) (checkpoint _ _ (ledgers c.answer.new.steps c.answer.new.cache)) c.in_ok-user.ensures.user opening.opened c.nonce.ensures c.in_ok-derived.ensures.key c.in_ok-derived.ensures.answered in
+    let between = between_by handed user o derived.key derived.salted c.nonce.result.now (checkpoint _ (ledgers c.args.steps.now c.args.salted.now)) (checkpoint _ (ledgers c.answer.new.steps c.answer.new.cache)) c.in_ok-user.ensures.user opening.opened c.nonce.ensures c.in_ok-derived.ensures.key c.in_ok-derived.ensures.answered in
     let challenge = challenge_by_first user o.server_first in
     let made = c.in_ok-client_final.ensures in
     let final = c.in_ok-client_final.client_final in
@@ -134,7 +134,7 @@ returns-clause-login g c =
     let o = c.in_ok-opened.opened in
     let opening = c.in_ok-opened.ensures in
     let derived = c.in_ok-derived.derived in
-    let between = between_by handed user o derived.key derived.salted c.nonce.result.now (checkpoint _ _ (ledgers c.args.steps.now c.args.salted.now)) (checkpoint _ _ (ledgers c.answer.new.steps c.answer.new.cache)) c.in_ok-user.ensures.user opening.opened c.nonce.ensures c.in_ok-derived.ensures.key c.in_ok-derived.ensures.answered in
+    let between = between_by handed user o derived.key derived.salted c.nonce.result.now (checkpoint _ (ledgers c.args.steps.now c.args.salted.now)) (checkpoint _ (ledgers c.answer.new.steps c.answer.new.cache)) c.in_ok-user.ensures.user opening.opened c.nonce.ensures c.in_ok-derived.ensures.key c.in_ok-derived.ensures.answered in
     let challenge = challenge_by_first user o.server_first in
     let made = c.in_ok-client_final.ensures in
     let final = c.in_ok-client_final.client_final in
