@@ -6,9 +6,11 @@ use Rattle.std.proofs.lemmas.Bool.{false≢true}
 use Rattle.std.proofs.lemmas.Nat.{from_le_bytes-to_le_bytes_4}
 use Rattle.mongo_bson.proofs.Sizes.{number_at_front}
 use Rattle.mongo_bson.specs.declared.raw_document.RawDocument.{RawDocument}
-use Rattle.mongo_wire.specs.Frame.{Section, body, sequence, IsSection, IsChecksum, section_bytes, bodies, uint32}
+use Rattle.mongo_wire.specs.Copies.{copies_with, CopiesSequences}
+use Rattle.mongo_wire.specs.Frame.{Section, body, sequence, IsSection, IsSequence, IsChecksum, section_bytes, bodies, sequences_of, uint32}
 use Rattle.mongo_wire.specs.Header.{number_at}
-use Rattle.mongo_wire.specs.Sections.{BeginsWithSection, HasNoSection, Shows}
+use Rattle.mongo_wire.specs.Sections.{AreDocuments, BeginsWithSection, HasNoSection, Shows, ShowsSequence, SplitsSequenceSection}
+use Rattle.mongo_wire.specs.declared.document_sequence.DocumentSequence.{DocumentSequence}
 use Rattle.mongo_wire.specs.declared.sections.SectionRef.{SectionRef}
 use Rattle.mongo_wire.specs.declared.sections.SectionRef.TheVariants.{Body, Sequence}
 use Rattle.mongo_wire.specs.declared.sections.SequenceRef.{SequenceRef}
@@ -17,16 +19,39 @@ use Rattle.mongo_wire.specs.declared.held_frame.Offsets.{Offsets}
 use Rattle.mongo_wire.proofs.Fields.{IsBytes, field, number_fits}
 use Rattle.mongo_wire.proofs.OneFrame.{one_section, least_section, one_sections, short_tail}
 
--- sections that were taken after the flags, and the place of the body among them
-pub record Took (bytes rest : List ℕ) (place : Option Offsets) : Type 0 where
+-- ---- copies of sequences
+
+copies_none : (copies : Option (List DocumentSequence)) → copies ≡ copies_with copies []
+copies_none None = refl
+copies_none (Some copies) = ap Some (sym (append-nil copies))
+
+copies_more : (copies : Option (List DocumentSequence)) (ss ts : List DocumentSequence) → copies_with (copies_with copies ss) ts ≡ copies_with copies (ss ++ ts)
+copies_more None ss ts = refl
+copies_more (Some copies) ss ts = ap Some (append_assoc copies ss ts)
+
+sequences_joined : (ss ts : List Section) → sequences_of (ss ++ ts) ≡ sequences_of ss ++ sequences_of ts
+sequences_joined [] ts = refl
+sequences_joined (body d ∷ ss) ts = sequences_joined ss ts
+sequences_joined (sequence s ∷ ss) ts = ap (λ l. s ∷ l) (sequences_joined ss ts)
+
+-- one section more, whose sequence was copied if it has one
+copied_more : (ss : List Section) (s : Section) (before old new : Option (List DocumentSequence)) → old ≡ copies_with before (sequences_of ss) → new ≡ copies_with old (sequences_of (s ∷ [])) → new ≡ copies_with before (sequences_of (ss ++ s ∷ []))
+copied_more ss s before old new had more =
+    more ∙ ap (λ c. copies_with c (sequences_of (s ∷ []))) had ∙ copies_more before (sequences_of ss) (sequences_of (s ∷ [])) ∙ ap (copies_with before) (sym (sequences_joined ss (s ∷ [])))
+
+-- ---- sections
+
+-- sections that were taken after the flags, the place of the body among them, and what their sequences' copies were and are
+pub record Took (bytes rest : List ℕ) (place : Option Offsets) (before now : Option (List DocumentSequence)) : Type 0 where
   pub sections : List Section
   pub each : AllByRecursion IsSection sections
   pub long : 4 ≤ length bytes
   pub spelled : drop 4 bytes ≡ flat_map section_bytes sections ++ rest
   pub found : Finds bytes (bodies sections) place
+  pub copied : now ≡ copies_with before (sequences_of sections)
 
-pub took_none : (bytes rest : List ℕ) → 4 ≤ length bytes → rest ≡ drop 4 bytes → Took bytes rest None
-took_none bytes rest long cut = record { sections = []; each = tt; long = long; spelled = sym cut; found = refl }
+pub took_none : (bytes rest : List ℕ) (copies : Option (List DocumentSequence)) → 4 ≤ length bytes → rest ≡ drop 4 bytes → Took bytes rest None copies copies
+took_none bytes rest copies long cut = record { sections = []; each = tt; long = long; spelled = sym cut; found = refl; copied = copies_none copies }
 
 -- lists of sections joined
 flat_joined : (ss ts : List Section) → flat_map section_bytes (ss ++ ts) ≡ flat_map section_bytes ss ++ flat_map section_bytes ts
@@ -83,8 +108,9 @@ section_shortens bytes rest read begins =
     omega (arith, ap length begins.spelled, length-append (section_bytes begins.section) rest, least_section begins.section begins.is_section)
 
 -- a section of kind 1 has no body
-pub took_sequence : (bytes rest after : List ℕ) (place : Option Offsets) (read : SequenceRef) → Took bytes rest place → BeginsWithSection rest (Sequence read) after → Took bytes after place
-took_sequence bytes rest after place read took begins =
+pub took_sequence : (bytes rest after : List ℕ) (place : Option Offsets) (read : SequenceRef) (before old new : Option (List DocumentSequence)) → Took bytes rest place before old → BeginsWithSection rest (Sequence read) after
+    → ((s : DocumentSequence) → IsSequence s → ShowsSequence s read → new ≡ copies_with old (s ∷ [])) → Took bytes after place before new
+took_sequence bytes rest after place read before old new took begins copied =
     let s = begins.section in
     let none = shown_sequence s read begins.shown in
     record {
@@ -93,12 +119,17 @@ took_sequence bytes rest after place read took begins =
       long = took.long;
       spelled = one_section_more (drop 4 bytes) rest after took.sections s took.spelled begins.spelled;
       found = subst (λ d. Finds bytes d place) (sym (bodies_joined took.sections (s ∷ []) ∙ ap (λ l. bodies took.sections ++ l) none ∙ append-nil (bodies took.sections))) took.found;
+      copied = copied_more took.sections s before old new took.copied (of s begins.is_section begins.shown);
     }
+  where
+    of : (s : Section) → IsSection s → Shows s (Sequence read) → new ≡ copies_with old (sequences_of (s ∷ []))
+    of (body d) is shown = absurd shown
+    of (sequence s) is shown = copied s is shown
 
-pub took_body : (bytes rest after : List ℕ) (place : Option Offsets) (read : RawDocument) (now : Offsets) → Took bytes rest place → is_some place ≡ false → BeginsWithSection rest (Body read) after
-    → now.body_start ≡ length bytes - length rest + 1 → now.body_end ≡ length bytes - length after → Took bytes after (Some now)
-took_body bytes rest after (Some place) read now took none begins start end = absurd (false≢true (sym none))
-took_body bytes rest after None read now took none begins start end =
+pub took_body : (bytes rest after : List ℕ) (place : Option Offsets) (read : RawDocument) (now : Offsets) (before copies : Option (List DocumentSequence)) → Took bytes rest place before copies → is_some place ≡ false
+    → BeginsWithSection rest (Body read) after → now.body_start ≡ length bytes - length rest + 1 → now.body_end ≡ length bytes - length after → Took bytes after (Some now) before copies
+took_body bytes rest after (Some place) read now before copies took none begins start end = absurd (false≢true (sym none))
+took_body bytes rest after None read now before copies took none begins start end =
     let d = read.bytes.now in
     let s = begins.section in
     let s_is = shown_body s read begins.shown in
@@ -122,6 +153,7 @@ took_body bytes rest after None read now took none begins start end =
         bodies_joined took.sections (s ∷ []) ∙ ap (λ l. l ++ bodies (s ∷ [])) took.found ∙ ap (λ z. bodies (z ∷ [])) s_is,
         part_at bytes front d after now.body_start now.body_end whole (omega (arith, size, left, start)) (omega (arith, size, left, ap length here, more, end)),
       );
+      copied = copied_more took.sections s before copies copies took.copied (copies_none copies ∙ ap (λ z. copies_with copies (sequences_of (z ∷ []))) (sym s_is));
     }
 
 -- ---- bytes that are no sections with one body
@@ -131,8 +163,8 @@ too_long rest tail u us p e =
     omega (arith, ap length e, length-append (section_bytes u ++ flat_map section_bytes us) tail, length-append (section_bytes u) (flat_map section_bytes us), least_section u p)
 
 -- no section stands where one has to
-pub no_more_section : (bytes rest : List ℕ) (place : Option Offsets) → Took bytes rest place → 4 < length rest → HasNoSection rest → HasNoSections (drop 4 bytes)
-no_more_section bytes rest place took long none sections document tail are =
+pub no_more_section : (bytes rest : List ℕ) (place : Option Offsets) (before now : Option (List DocumentSequence)) → Took bytes rest place before now → 4 < length rest → HasNoSection rest → HasNoSections (drop 4 bytes)
+no_more_section bytes rest place before now took long none sections document tail are =
     let (us, is, each, left) = goes_on took.sections sections rest tail took.each are.each are.short (sym took.spelled ∙ are.spelled) in
     stop us each left
   where
@@ -140,13 +172,19 @@ no_more_section bytes rest place took long none sections document tail are =
     stop [] each left = omega (arith, ap length left, are.short, long)
     stop (u ∷ us) each left = none u (flat_map section_bytes us ++ tail) each.0 (left ∙ append_assoc (section_bytes u) (flat_map section_bytes us) tail)
 
+-- documents don't fill the sequence that stands there
+pub unfilled : (bytes rest after : List ℕ) (place : Option Offsets) (read : SequenceRef) (before now : Option (List DocumentSequence)) → Took bytes rest place before now → 4 < length rest → SplitsSequenceSection rest read after
+    → ¬ (AreDocuments read.documents.now) → HasNoSections (drop 4 bytes)
+unfilled bytes rest after place read before now took long splits none =
+    no_more_section bytes rest place before now took long (λ s more is spelled. none (splits.filled s more is spelled))
+
 -- a second body
 two : (bytes : List ℕ) (documents more : List (List ℕ)) (document : List ℕ) (place : Offsets) → Finds bytes documents (Some place) → length (documents ++ document ∷ more) ≡ 1 → ⊥
 two bytes documents more document place found one = omega (arith, length-append documents (document ∷ more), ap length found.1, one)
 
-pub second_body : (bytes rest after : List ℕ) (place : Option Offsets) (read : RawDocument) → Took bytes rest place → is_some place ≡ true → 4 < length rest → BeginsWithSection rest (Body read) after → HasNoSections (drop 4 bytes)
-second_body bytes rest after None read took some long begins sections document tail are = absurd (false≢true some)
-second_body bytes rest after (Some place) read took some long begins sections document tail are =
+pub second_body : (bytes rest after : List ℕ) (place : Option Offsets) (read : RawDocument) (before now : Option (List DocumentSequence)) → Took bytes rest place before now → is_some place ≡ true → 4 < length rest → BeginsWithSection rest (Body read) after → HasNoSections (drop 4 bytes)
+second_body bytes rest after None read before now took some long begins sections document tail are = absurd (false≢true some)
+second_body bytes rest after (Some place) read before now took some long begins sections document tail are =
     let (us, is, each, left) = goes_on took.sections sections rest tail took.each are.each are.short (sym took.spelled ∙ are.spelled) in
     stop us is each left
   where
@@ -159,9 +197,9 @@ second_body bytes rest after (Some place) read took some long begins sections do
         two bytes (bodies took.sections) (bodies us) read.bytes.now place took.found (ap length (sym all ∙ are.one_body))
 
 -- no body
-pub no_body : (bytes rest : List ℕ) (place : Option Offsets) → Took bytes rest place → place ≡ None → length rest ≤ 4 → HasNoSections (drop 4 bytes)
-no_body bytes rest (Some place) took none short sections document tail are = absurd (false≢true (sym (ap is_some none)))
-no_body bytes rest None took none short sections document tail are =
+pub no_body : (bytes rest : List ℕ) (place : Option Offsets) (before now : Option (List DocumentSequence)) → Took bytes rest place before now → place ≡ None → length rest ≤ 4 → HasNoSections (drop 4 bytes)
+no_body bytes rest (Some place) before now took none short sections document tail are = absurd (false≢true (sym (ap is_some none)))
+no_body bytes rest None before now took none short sections document tail are =
     let (us, is, each, left) = goes_on took.sections sections rest tail took.each are.each are.short (sym took.spelled ∙ are.spelled) in
     stop us is each left
   where
@@ -178,9 +216,9 @@ no_content bytes none word sections document tail sum is =
     none sections document tail (record { each = is.each; one_body = is.one_body; spelled = ap (drop 4) is.spelled; short = short_tail word tail sum is.checksum_is })
 
 -- the sections end where the bytes after them begin
-pub lies_at : (bytes rest : List ℕ) (now place : Offsets) → Took bytes rest (Some now) → length rest ≤ 4 → place.body_start ≡ now.body_start → place.body_end ≡ now.body_end → place.sections_end ≡ length bytes - length rest
+pub lies_at : (bytes rest : List ℕ) (now place : Offsets) (before copies : Option (List DocumentSequence)) → Took bytes rest (Some now) before copies → length rest ≤ 4 → place.body_start ≡ now.body_start → place.body_end ≡ now.body_end → place.sections_end ≡ length bytes - length rest
     → LiesAt bytes place
-lies_at bytes rest now place took short start end ended =
+lies_at bytes rest now place before copies took short start end ended =
     let (document, one, at) = took.found in
     record {
       sections = took.sections;
@@ -191,6 +229,11 @@ lies_at bytes rest now place took short start end ended =
       ended = omega (arith, took.long, length-drop 4 bytes, ap length took.spelled, length-append (flat_map section_bytes took.sections) rest, ended);
       within = omega (arith, ended);
     }
+
+-- all their sequences were copied
+pub copied_all : (bytes rest : List ℕ) (place : Option Offsets) (before now : Option (List DocumentSequence)) → Took bytes rest place before now → length rest ≤ 4 → CopiesSequences bytes before now
+copied_all bytes rest place before now took short sections document tail are =
+    took.copied ∙ ap (λ ss. copies_with before (sequences_of ss)) (one_sections took.sections sections rest tail took.each are.each short are.short (sym took.spelled ∙ are.spelled)).0
 
 -- the bytes after the sections
 tail_is : (bytes tail : List ℕ) (place : Offsets) (lies : LiesAt bytes place) → tail ≡ drop place.sections_end bytes → tail ≡ lies.tail

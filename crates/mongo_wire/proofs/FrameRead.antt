@@ -145,6 +145,12 @@ sections_refused maximum old mid new head bytes p q still sixteen row size none 
   ),
 )
 
+-- the whole frame came, and memory ran out
+pub stopped_whole : (maximum : ℤ) (old mid new : State) (head bytes : List ℕ) → Consumes old.left mid.left head → Consumes mid.left new.left bytes → Unstopped old new → length head ≡ 16
+    → header_row maximum head ≡ None → pos (16 + length bytes) ≡ signed_at 0 head → ReadRefused OutOfMemory maximum old new
+stopped_whole maximum old mid new head bytes p q still sixteen row size =
+    (still, (head ++ bytes, Consumes-trans old.left mid.left new.left head bytes p q, inr (passes maximum head bytes sixteen row, omega (arith, ints, length-append head bytes, size_with head bytes sixteen, size))))
+
 -- ---- a frame stood there
 
 -- where one stands, no row is called for

@@ -9,7 +9,7 @@ pub mod Contents
 pub mod Found
 pub mod ReadStopped
 pub mod FrameRead
-pub mod OwnedParts
+pub mod Copied
 pub mod MessageRead
 pub mod HeaderBack
 pub mod SectionsSent

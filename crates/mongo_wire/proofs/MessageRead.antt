@@ -19,8 +19,8 @@ copied_flags : (frame : List ℕ) (parts : Frame) (m : Message) → IsFrame fram
 copied_flags frame parts m is owned = is.flags_are ∙ sym (known_twice is.word) ∙ ap (λ w. bit_and w known_flags) (sym is.flags_are ∙ sym owned.flags_are)
 
 -- the parts of a copy are the frame's
-copied_parts : (frame : List ℕ) (parts : Frame) (m : Message) → IsFrame frame parts → IsOwned parts m → parts ≡ parts_of parts.request_id m
-copied_parts frame parts m is owned =
+pub read_parts : (frame : List ℕ) (parts : Frame) (m : Message) → IsFrame frame parts → IsOwned parts m → parts ≡ parts_of parts.request_id m
+read_parts frame parts m is owned =
     let flags : parts.flags ≡ bit_and m.flags.0 known_flags = copied_flags frame parts m is owned in
     same_parts parts.request_id parts.request_id parts.response_to m.response_to parts.flags (bit_and m.flags.0 known_flags) parts.body m.document_payload parts.sequences m.document_sequences parts.checksum m.checksum
     refl (sym owned.response_is) flags (sym owned.body_is) (sym owned.sequences_are) (sym owned.checksum_is)
@@ -29,32 +29,10 @@ pub read_whole : (maximum : ℤ) (old new : State) (buffer : FrameBuffer) (m : M
 read_whole maximum old new buffer m read owned = record {
   frame = read.frame;
   id = read.parts.request_id;
-  is_frame = subst (IsFrame read.frame) (copied_parts read.frame read.parts m read.holds.is_held.is_frame owned) read.holds.is_held.is_frame;
+  is_frame = subst (IsFrame read.frame) (read_parts read.frame read.parts m read.holds.is_held.is_frame owned) read.holds.is_held.is_frame;
   within = read.within;
   taken = read.taken;
   unstopped = read.unstopped;
   flags_known = owned.flags_are ∙ copied_flags read.frame read.parts m read.holds.is_held.is_frame owned;
   unnumbered = owned.unnumbered;
 }
-
--- memory ran out after the whole frame came
-pub read_then_stopped : (maximum : ℤ) (old new : State) (buffer : FrameBuffer) → IsFrameTaken maximum old new buffer → ReadRefused OutOfMemory maximum old new
-read_then_stopped maximum old new buffer read =
-    let is = read.holds.is_held.is_frame in
-    (read.unstopped, (read.frame, read.taken, inr (record { whole = omega (arith, least_frame read.frame read.parts is); good = frame_row maximum read.frame read.parts is read.within }, omega (arith, ints, frame_tells_length read.frame read.parts is))))
-
-same_id : (p q : Frame) → p ≡ q → p.request_id ≡ q.request_id
-same_id p q e = ap (λ z. z.request_id) e
-
-pub reads_again : (result : Result Message Error) (maximum : ℤ) (old new : State)
-    → IfOk result (IsRead maximum old new) → IfErr result (λ e. ReadRefused e.kind maximum old new)
-    → (frame rest : List ℕ) (parts : Frame) → old.left ≡ Some (frame ++ rest) → IsFrame frame parts → pos (length frame) ≤ℤ maximum → ReadsAgain parts rest new.left result
-reads_again (Err e) maximum old new p q frame rest parts is frame_is within = no_refused_frame e.kind maximum old new frame rest parts is frame_is within q
-reads_again (Ok m) maximum old new p q frame rest parts is frame_is within = at new.left (rw is at p.taken)
-  where
-    at : (new : Option (List ℕ)) → Consumes (Some (frame ++ rest)) new p.frame → (parts_of parts.request_id m ≡ parts) × (new ≡ Some rest)
-    at None c = absurd c
-    at (Some left) c =
-        let (frames, both, rests) = one_frame p.frame frame left rest (parts_of p.id m) parts p.is_frame frame_is (sym c) in
-        let id : p.id ≡ parts.request_id = same_id (parts_of p.id m) parts both in
-        (ap (λ i. parts_of i m) (sym id) ∙ both, ap Some rests)

@@ -11,6 +11,7 @@ pub mod Error
 pub mod Buffer
 pub mod Sections
 pub mod Content
+pub mod Copies
 pub mod Held
 pub mod Ref
 pub mod Small

@@ -9,11 +9,12 @@ ghost use Rattle.mongo_wire.specs.Outside.{State, ReadsOn, Unstopped, HasEnded, 
 ghost use Rattle.mongo_wire.specs.Header.{maximum_of, header_bytes};
 ghost use Rattle.mongo_wire.specs.Message.{ReadRefused, IsUnreadable, WhereFrameStands};
 ghost use Rattle.mongo_wire.specs.Ref.{IsFrameRead, ShowsAgain, FoundAgain};
-ghost use Rattle.mongo_wire.specs.Buffer.{IsFrameTaken, IsCleared, FindsAgain, TakesAgain, ReadsInto, NextInto, UsesMemory, frames_taken};
+ghost use Rattle.mongo_wire.specs.Copies.{CopiesSequences};
+ghost use Rattle.mongo_wire.specs.Buffer.{held_bytes, IsFrameTaken, IsCleared, FindsAgain, TakesAgain, ReadsInto, NextInto, UsesMemory, frames_taken};
 
 use crate::held_frame::HeldFrame;
 use crate::reading::{fill_or_end, take_into};
-use crate::{Error, FrameBuffer, FrameFault, Header, MessageRef, ResponseFault, Source};
+use crate::{Error, FrameBuffer, FrameFault, Header, MessageRef, ResponseFault, Sequences, Source};
 use std::alloc::Global;
 
 impl FrameBuffer {
@@ -63,7 +64,7 @@ impl FrameBuffer {
         ensures again { WhereFrameStands (maximum_of maximum) (S.state source.old) (λ frame rest parts. MatchResult result (FoundAgain frame parts rest (S.state source.new).left) (λ fault. IsUnreadable (kind_of_frame_fault fault))) }
         ensures on { ReadsOn (S.state source.old) (S.state source.new) }
     {
-        match self.take_next_frame(source, maximum) {
+        match self.take_next_frame(source, maximum, &mut None) {
             Ok(true) => match self.message() {
                 Some(message) => Ok(Some(message)),
                 None => unreachable!(),
@@ -93,7 +94,7 @@ impl FrameBuffer {
         ensures memory { UsesMemory (maximum_of maximum) (S.state source.old) (S.state source.new) self.old self.new }
         ensures on { ReadsOn (S.state source.old) (S.state source.new) }
     {
-        match self.take_next_frame(source, maximum) {
+        match self.take_next_frame(source, maximum, &mut None) {
             Ok(true) => Ok(()),
             Ok(false) => Err(FrameFault::EndOfInput),
             Err(fault) => Err(fault),
@@ -101,11 +102,12 @@ impl FrameBuffer {
     }
 
     // Takes the next frame, and says whether there was one: not where the source ended before its first byte. The buffer
-    // holds nothing then.
-    fn take_next_frame<S: Source>(
+    // holds nothing then. Where copies of the frame's sequences are wanted, they are made while it is judged.
+    pub(crate) fn take_next_frame<S: Source>(
         &mut self,
         source: &mut S,
         maximum: Option<i32>,
+        copies: &mut Option<Sequences>,
     ) -> Result<bool, FrameFault>
         ensures taken { IfOk result (λ found. found ≡ true → IsFrameTaken (maximum_of maximum) (S.state source.old) (S.state source.new) self.new) }
         // There was none where the end came before the first byte.
@@ -114,6 +116,7 @@ impl FrameBuffer {
         ensures more { IfErr result (λ fault. HasMore (kind_of_frame_fault fault) (S.state source.old).left) }
         ensures again { WhereFrameStands (maximum_of maximum) (S.state source.old) (λ frame rest parts. FindsAgain frame parts rest (S.state source.new).left self.new result) }
         ensures counted { IfOk result (λ found. found ≡ true → frames_taken self.new ≡ risen (frames_taken self.old)) }
+        ensures copied { IfOk result (λ found. found ≡ true → CopiesSequences (held_bytes self.new) copies.old copies.new) }
         ensures none { IfOk result (λ found. found ≡ false → IsCleared self.old self.new) }
         ensures emptied { OnErr result (IsCleared self.old self.new) }
         ensures memory { UsesMemory (maximum_of maximum) (S.state source.old) (S.state source.new) self.old self.new }
@@ -123,7 +126,7 @@ impl FrameBuffer {
         let mut head = [0u8; Header::LENGTH];
         match fill_or_end(source, &mut head) {
             Ok(true) => match Header::decode(&head) {
-                Ok(header) => match self.take_after(source, header, maximum) {
+                Ok(header) => match self.take_rest(source, header, maximum, copies) {
                     Ok(()) => Ok(true),
                     Err(fault) => Err(fault),
                 },
@@ -154,6 +157,28 @@ impl FrameBuffer {
         ensures memory { UsesMemory (maximum_of maximum) (S.state source.old) (S.state source.new) self.old self.new }
         ensures on { ReadsOn (S.state source.old) (S.state source.new) }
     {
+        self.take_rest(source, header, maximum, &mut None)
+    }
+
+    // Takes the rest of a frame as [`FrameBuffer::take_after`] does. Where copies of the frame's sequences are wanted, they
+    // are made while it is judged.
+    fn take_rest<S: Source>(
+        &mut self,
+        source: &mut S,
+        header: Header,
+        maximum: Option<i32>,
+        copies: &mut Option<Sequences>,
+    ) -> Result<(), FrameFault>
+        ensures taken { (before : State) → Consumes before.left (S.state source.old).left (header_bytes header) → Unstopped before (S.state source.old) →
+            OnOk result (IsFrameTaken (maximum_of maximum) before (S.state source.new) self.new) }
+        ensures refused { (before : State) → Consumes before.left (S.state source.old).left (header_bytes header) → Unstopped before (S.state source.old) → ReadsOn before (S.state source.old) →
+            IfErr result (λ fault. ReadRefused (kind_of_frame_fault fault) (maximum_of maximum) before (S.state source.new)) }
+        ensures copied { OnOk result (CopiesSequences (held_bytes self.new) copies.old copies.new) }
+        ensures counted { OnOk result (frames_taken self.new ≡ risen (frames_taken self.old)) }
+        ensures emptied { OnErr result (IsCleared self.old self.new) }
+        ensures memory { UsesMemory (maximum_of maximum) (S.state source.old) (S.state source.new) self.old self.new }
+        ensures on { ReadsOn (S.state source.old) (S.state source.new) }
+    {
         self.clear();
         let rest = match header.rest_within(maximum) {
             Ok(rest) => rest,
@@ -163,12 +188,14 @@ impl FrameBuffer {
             Ok(()) => {}
             Err(fault) => return Err(fault),
         }
-        match HeldFrame::of(header, &self.store.as_slice()[..rest]) {
-            Some(frame) => {
+        let alloc = *self.store.allocator();
+        match HeldFrame::of(alloc, header, &self.store.as_slice()[..rest], copies) {
+            Ok(Some(frame)) => {
                 self.keep(frame, rest);
                 Ok(())
             }
-            None => Err(FrameFault::InvalidResponse(ResponseFault::Sections)),
+            Ok(None) => Err(FrameFault::InvalidResponse(ResponseFault::Sections)),
+            Err(_) => Err(FrameFault::OutOfMemory),
         }
     }
 }

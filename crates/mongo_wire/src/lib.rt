@@ -21,6 +21,7 @@
 
 mod auth_fault;
 mod command_error;
+mod copies;
 mod count_reader;
 mod document_sequence;
 mod error;
@@ -38,7 +39,6 @@ mod message_flags;
 mod message_ref;
 mod op_code;
 mod outside;
-mod owned;
 mod raw_sections;
 mod read_document;
 mod reading;

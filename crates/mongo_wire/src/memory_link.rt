@@ -1,4 +1,4 @@
-ghost use Rattle.std.specs.Prelude.{◌≡◌, ◌≤◌, [], length, IsOk, IfOk, IfErr, OnOk};
+ghost use Rattle.std.specs.Prelude.{◌≡◌, ◌≤◌, [], Some, length, IsOk, IfOk, IfErr, OnOk};
 ghost use Rattle.std.specs.Io.KnownBytes.{Keeps};
 ghost use Rattle.mongo_wire.specs.Outside.{IsFlushed, WriteCounts, WritesOn};
 
@@ -62,6 +62,23 @@ impl MemoryLink {
         ensures { result.now ≡ bytes_left self.now }
     {
         &self.input.as_slice()[self.at..]
+    }
+
+    /// Gives the whole input once more. What was written stays.
+    pub fn rewind(&mut self)
+        ensures state { memory_state self.new ≡ record (memory_state self.old) { left = Some self.old.input.items } }
+        ensures input { self.new.input ≡ self.old.input }
+    {
+        self.at = 0;
+    }
+
+    /// Forgets what was written, and keeps its memory for what is written next. What is left of the input stays.
+    pub fn clear_written(&mut self)
+        ensures state { memory_state self.new ≡ record (memory_state self.old) { written = Some []; flushed = 0 } }
+        ensures input { self.new.input ≡ self.old.input }
+    {
+        self.output.clear();
+        self.flushed = 0;
     }
 
     /// A copy of the link, in memory of its own.

@@ -1,16 +1,20 @@
 ghost use Rattle.std.specs.Prelude.{◌≡◌, [], ℕ, List, ◌++◌, None, Some, length, IfOk, IfErr, OnOk};
 ghost use Rattle.mongo_wire.specs.Outside.{ReadsOn, WritesOn};
 ghost use Rattle.mongo_wire.specs.Frame.{Frame, IsFrame};
+ghost use Rattle.mongo_wire.specs.Buffer.{HoldsFrame, held_bytes};
+ghost use Rattle.mongo_wire.specs.Copies.{CopiesSequences};
 ghost use Rattle.mongo_wire.specs.Header.{maximum_of};
 ghost use Rattle.mongo_wire.specs.Message.{IsRead, ReadRefused, ReadsAgain, WhereFrameStands, Writes, WriteRefused, IsFrameOf, TellsChecksum, written_frame, id_of, id_after};
+ghost use Rattle.mongo_wire.specs.Ref.{IsOwned};
 ghost use Rattle.mongo_wire.specs.declared.fault.ArgumentFault.{ArgumentFault};
 ghost use Rattle.mongo_wire.specs.declared.error.ErrorKind.TheVariants.{InvalidArgument};
 
 use crate::measure::measured;
-use crate::owned::owned_message;
 use crate::write_message::{write_before_checksum, write_checksum};
 use crate::writing::flush_out;
-use crate::{Error, ErrorKind, FrameBuffer, MessageFlags, RequestIds, Sequences, Sink, Source};
+use crate::{
+    Error, ErrorKind, FrameBuffer, FrameFault, MessageFlags, RequestIds, Sequences, Sink, Source,
+};
 use mongo_bson::{BsonFault, RawDocumentBuf};
 use std::alloc::Global;
 
@@ -73,9 +77,37 @@ impl Message {
         ensures on { ReadsOn (S.state source.old) (S.state source.new) }
     {
         let mut buffer = FrameBuffer::new(alloc);
-        match buffer.take_frame(source, maximum) {
-            Ok(()) => owned_message(alloc, buffer),
+        let mut copies = Some(Sequences::new(alloc));
+        match buffer.take_next_frame(source, maximum, &mut copies) {
+            Ok(true) => Ok(Message::of_frame(buffer, copies)),
+            Ok(false) => Err(FrameFault::EndOfInput.into()),
             Err(fault) => Err(fault.into()),
+        }
+    }
+
+    // The message of the frame that the buffer holds, of whose sequences these are the copies. Its body keeps the buffer's
+    // memory.
+    fn of_frame(buffer: FrameBuffer, copies: Option<Sequences>) -> Message
+        requires holds { (frame : List ℕ) × (parts : Frame) × HoldsFrame frame parts buffer }
+        requires copied { CopiesSequences (held_bytes buffer) (Some []) copies }
+        ensures { (frame : List ℕ) (parts : Frame) → HoldsFrame frame parts buffer → IsOwned parts result }
+    {
+        let Some(message) = buffer.message() else {
+            unreachable!()
+        };
+        let Some(document_sequences) = copies else {
+            unreachable!()
+        };
+        let response_to = message.header.response_to;
+        let flags = message.flags;
+        let checksum = message.checksum;
+        Message {
+            document_payload: buffer.into_document(),
+            document_sequences,
+            response_to,
+            flags,
+            checksum,
+            request_id: None,
         }
     }
 

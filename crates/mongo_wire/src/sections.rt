@@ -1,5 +1,5 @@
-ghost use Rattle.std.specs.Prelude.{◌↔◌, IsTrue, MatchOption};
-ghost use Rattle.mongo_wire.specs.Sections.{AreDocuments, SplitsSequence, HasNoSequence, BeginsWithSection, SplitsSection, HasNoSection};
+ghost use Rattle.std.specs.Prelude.{MatchOption};
+ghost use Rattle.mongo_wire.specs.Sections.{SplitsSequence, HasNoSequence, SplitsSection, HasNoSection};
 
 use crate::header::number;
 use mongo_bson::{MAXIMUM_LENGTH, RawDocument, take_cstring, take_document};
@@ -26,24 +26,8 @@ pub(crate) struct SequenceRef<'a> {
     pub(crate) documents: &'a [u8],
 }
 
-// The section at the front and the bytes after it. None where no section stands there.
-pub(crate) fn take_section<'a>(bytes: &'a [u8]) -> Option<(SectionRef<'a>, &'a [u8])>
-    ensures { MatchOption result (HasNoSection bytes.now) (λ p. BeginsWithSection bytes.now p.0 p.1.now) }
-{
-    match split_section(bytes) {
-        Some((SectionRef::Body(document), rest)) => Some((SectionRef::Body(document), rest)),
-        Some((SectionRef::Sequence(sequence), rest)) => {
-            if are_documents(sequence.documents) {
-                Some((SectionRef::Sequence(sequence), rest))
-            } else {
-                None
-            }
-        }
-        None => None,
-    }
-}
-
-// The same for bytes that were judged before: whether documents fill a sequence isn't looked at.
+// The section at the front and the bytes after it. None where no section stands there. Whether documents fill a sequence
+// isn't looked at.
 pub(crate) fn split_section<'a>(bytes: &'a [u8]) -> Option<(SectionRef<'a>, &'a [u8])>
     ensures { MatchOption result (HasNoSection bytes.now) (λ p. SplitsSection bytes.now p.0 p.1.now) }
 {
@@ -86,18 +70,4 @@ fn split_sequence<'a>(bytes: &'a [u8]) -> Option<(SequenceRef<'a>, &'a [u8])>
         documents,
     };
     Some((sequence, rest))
-}
-
-// Whether documents fill the bytes, one after another.
-fn are_documents(bytes: &[u8]) -> bool
-    ensures { IsTrue result ↔ AreDocuments bytes.now }
-{
-    let mut rest = bytes;
-    'documents: while !rest.is_empty() {
-        match take_document(rest) {
-            Some((_document, after)) => rest = after,
-            None => return false,
-        }
-    }
-    true
 }

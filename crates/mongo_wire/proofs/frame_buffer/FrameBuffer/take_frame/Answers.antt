@@ -47,15 +47,3 @@ returns-in-Ok-false-clause-memory g c =
 
 pub returns-in-Ok-false-clause-on : goal.returns-in-Ok-false-clause-on
 returns-in-Ok-false-clause-on g c = c.in-Ok-false.ensures.on
-
-pub returns-in-Err-clause-refused : goal.returns-in-Err-clause-refused
-returns-in-Err-clause-refused g c = c.in-Err.ensures.refused
-
-pub returns-in-Err-clause-emptied : goal.returns-in-Err-clause-emptied
-returns-in-Err-clause-emptied g c = c.in-Err.ensures.emptied
-
-pub returns-in-Err-clause-memory : goal.returns-in-Err-clause-memory
-returns-in-Err-clause-memory g c = c.in-Err.ensures.memory
-
-pub returns-in-Err-clause-on : goal.returns-in-Err-clause-on
-returns-in-Err-clause-on g c = c.in-Err.ensures.on

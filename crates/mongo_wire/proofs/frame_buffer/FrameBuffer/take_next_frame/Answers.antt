@@ -8,52 +8,52 @@ use Rattle.mongo_wire.proofs.FrameRead.{header_refused, unknown_row, header_stop
 use Rattle.mongo_wire.proofs.ReadStopped.{reads_on}
 use Rattle.mongo_wire.proofs.frame_buffer.FrameBuffer.take_next_frame.Goals as goal
 
-pub returns-in-Ok-take_after-clause-again : goal.returns-in-Ok-take_after-clause-again
-returns-in-Ok-take_after-clause-again g c = λ frame rest parts is frame_is within.
+pub returns-in-Ok-take_rest-clause-again : goal.returns-in-Ok-take_rest-clause-again
+returns-in-Ok-take_rest-clause-again g c = λ frame rest parts is frame_is within.
     let state = g.S.Outside.state in
-    let same = same_taken (maximum_of c.args.maximum) (state c.args.source.now) (state c.take_after.new.source) c.take_after.new.self frame rest parts is frame_is (c.in-Ok-take_after.ensures.taken (state c.args.source.now) (subst (Consumes _ _) (sym c.in-Ok.ensures.spelled) (c.in-Ok-true.ensures.filled c.in-Ok-true.field-0-test)) (c.in-Ok-true.ensures.unstopped c.in-Ok-true.field-0-test)) in
+    let same = same_taken (maximum_of c.args.maximum) (state c.args.source.now) (state c.take_rest.new.source) c.take_rest.new.self frame rest parts is frame_is (c.in-Ok-take_rest.ensures.taken (state c.args.source.now) (subst (Consumes _ _) (sym c.in-Ok.ensures.spelled) (c.in-Ok-true.ensures.filled c.in-Ok-true.field-0-test)) (c.in-Ok-true.ensures.unstopped c.in-Ok-true.field-0-test)) in
     (refl, same.0, same.1)
 
-pub returns-in-Err-take_after-clause-again : goal.returns-in-Err-take_after-clause-again
-returns-in-Err-take_after-clause-again g c = λ frame rest parts is frame_is within.
+pub returns-in-Err-take_rest-clause-again : goal.returns-in-Err-take_rest-clause-again
+returns-in-Err-take_rest-clause-again g c = λ frame rest parts is frame_is within.
     let head = c.in-Ok-true.ensures in
     let state = g.S.Outside.state in
-    no_refused_frame (kind_of_frame_fault c.in-Err-take_after.fault) (maximum_of c.args.maximum) _ _ frame rest parts is frame_is within (c.in-Err-take_after.ensures.refused (state c.args.source.now) (subst (Consumes _ _) (sym c.in-Ok.ensures.spelled) (head.filled c.in-Ok-true.field-0-test)) (head.unstopped c.in-Ok-true.field-0-test) head.on)
+    no_refused_frame (kind_of_frame_fault c.in-Err-take_rest.fault) (maximum_of c.args.maximum) _ _ frame rest parts is frame_is within (c.in-Err-take_rest.ensures.refused (state c.args.source.now) (subst (Consumes _ _) (sym c.in-Ok.ensures.spelled) (head.filled c.in-Ok-true.field-0-test)) (head.unstopped c.in-Ok-true.field-0-test) head.on)
 
 pub returns-in-Err-clause-refused : goal.returns-in-Err-clause-refused
 returns-in-Err-clause-refused g c =
     let refused = c.in-Err.ensures in
     header_stopped (kind_of_frame_fault c.in-Err.fault) (maximum_of c.args.maximum) _ _ refused.on.tells refused.refused
 
-pub returns-in-Ok-take_after-clause-memory : goal.returns-in-Ok-take_after-clause-memory
-returns-in-Ok-take_after-clause-memory g c =
+pub returns-in-Ok-take_rest-clause-memory : goal.returns-in-Ok-take_rest-clause-memory
+returns-in-Ok-take_rest-clause-memory g c =
     let state = g.S.Outside.state in
-    memory_later (maximum_of c.args.maximum) (state c.args.source.now) (state c.fill_or_end.new.source) (state c.take_after.new.source) _ c.args.self.now c.clear.new.self c.take_after.new.self (ap (λ s. vec_capacity s) c.clear.ensures.store) (c.in-Ok-true.ensures.filled c.in-Ok-true.field-0-test) c.in-Ok-take_after.ensures.memory
+    memory_later (maximum_of c.args.maximum) (state c.args.source.now) (state c.fill_or_end.new.source) (state c.take_rest.new.source) _ c.args.self.now c.clear.new.self c.take_rest.new.self (ap (λ s. vec_capacity s) c.clear.ensures.store) (c.in-Ok-true.ensures.filled c.in-Ok-true.field-0-test) c.in-Ok-take_rest.ensures.memory
 
-pub returns-in-Err-take_after-clause-memory : goal.returns-in-Err-take_after-clause-memory
-returns-in-Err-take_after-clause-memory g c =
+pub returns-in-Err-take_rest-clause-memory : goal.returns-in-Err-take_rest-clause-memory
+returns-in-Err-take_rest-clause-memory g c =
     let state = g.S.Outside.state in
-    memory_later (maximum_of c.args.maximum) (state c.args.source.now) (state c.fill_or_end.new.source) (state c.take_after.new.source) _ c.args.self.now c.clear.new.self c.take_after.new.self (ap (λ s. vec_capacity s) c.clear.ensures.store) (c.in-Ok-true.ensures.filled c.in-Ok-true.field-0-test) c.in-Err-take_after.ensures.memory
+    memory_later (maximum_of c.args.maximum) (state c.args.source.now) (state c.fill_or_end.new.source) (state c.take_rest.new.source) _ c.args.self.now c.clear.new.self c.take_rest.new.self (ap (λ s. vec_capacity s) c.clear.ensures.store) (c.in-Ok-true.ensures.filled c.in-Ok-true.field-0-test) c.in-Err-take_rest.ensures.memory
 
-pub returns-in-Ok-take_after-clause-taken : goal.returns-in-Ok-take_after-clause-taken
-returns-in-Ok-take_after-clause-taken g c = λ _. c.in-Ok-take_after.ensures.taken (g.S.Outside.state c.args.source.now) (subst (Consumes _ _) (sym c.in-Ok.ensures.spelled) (c.in-Ok-true.ensures.filled c.in-Ok-true.field-0-test)) (c.in-Ok-true.ensures.unstopped c.in-Ok-true.field-0-test)
+pub returns-in-Ok-take_rest-clause-taken : goal.returns-in-Ok-take_rest-clause-taken
+returns-in-Ok-take_rest-clause-taken g c = λ _. c.in-Ok-take_rest.ensures.taken (g.S.Outside.state c.args.source.now) (subst (Consumes _ _) (sym c.in-Ok.ensures.spelled) (c.in-Ok-true.ensures.filled c.in-Ok-true.field-0-test)) (c.in-Ok-true.ensures.unstopped c.in-Ok-true.field-0-test)
 
-pub returns-in-Ok-take_after-clause-counted : goal.returns-in-Ok-take_after-clause-counted
-returns-in-Ok-take_after-clause-counted g c = λ _. c.in-Ok-take_after.ensures.counted ∙ ap risen c.clear.ensures.frames
+pub returns-in-Ok-take_rest-clause-counted : goal.returns-in-Ok-take_rest-clause-counted
+returns-in-Ok-take_rest-clause-counted g c = λ _. c.in-Ok-take_rest.ensures.counted ∙ ap risen c.clear.ensures.frames
 
-pub returns-in-Ok-take_after-clause-on : goal.returns-in-Ok-take_after-clause-on
-returns-in-Ok-take_after-clause-on g c = reads_on _ _ _ c.in-Ok-true.ensures.on c.in-Ok-take_after.ensures.on
+pub returns-in-Ok-take_rest-clause-on : goal.returns-in-Ok-take_rest-clause-on
+returns-in-Ok-take_rest-clause-on g c = reads_on _ _ _ c.in-Ok-true.ensures.on c.in-Ok-take_rest.ensures.on
 
-pub returns-in-Err-take_after-clause-refused : goal.returns-in-Err-take_after-clause-refused
-returns-in-Err-take_after-clause-refused g c = c.in-Err-take_after.ensures.refused (g.S.Outside.state c.args.source.now) (subst (Consumes _ _) (sym c.in-Ok.ensures.spelled) (c.in-Ok-true.ensures.filled c.in-Ok-true.field-0-test)) (c.in-Ok-true.ensures.unstopped c.in-Ok-true.field-0-test) c.in-Ok-true.ensures.on
+pub returns-in-Err-take_rest-clause-refused : goal.returns-in-Err-take_rest-clause-refused
+returns-in-Err-take_rest-clause-refused g c = c.in-Err-take_rest.ensures.refused (g.S.Outside.state c.args.source.now) (subst (Consumes _ _) (sym c.in-Ok.ensures.spelled) (c.in-Ok-true.ensures.filled c.in-Ok-true.field-0-test)) (c.in-Ok-true.ensures.unstopped c.in-Ok-true.field-0-test) c.in-Ok-true.ensures.on
 
-pub returns-in-Err-take_after-clause-emptied : goal.returns-in-Err-take_after-clause-emptied
-returns-in-Err-take_after-clause-emptied g c =
-    let emptied = c.in-Err-take_after.ensures.emptied in
+pub returns-in-Err-take_rest-clause-emptied : goal.returns-in-Err-take_rest-clause-emptied
+returns-in-Err-take_rest-clause-emptied g c =
+    let emptied = c.in-Err-take_rest.ensures.emptied in
     record { nothing = emptied.nothing; frames = emptied.frames ∙ c.clear.ensures.frames }
 
-pub returns-in-Err-take_after-clause-on : goal.returns-in-Err-take_after-clause-on
-returns-in-Err-take_after-clause-on g c = reads_on _ _ _ c.in-Ok-true.ensures.on c.in-Err-take_after.ensures.on
+pub returns-in-Err-take_rest-clause-on : goal.returns-in-Err-take_rest-clause-on
+returns-in-Err-take_rest-clause-on g c = reads_on _ _ _ c.in-Ok-true.ensures.on c.in-Err-take_rest.ensures.on
 
 pub returns-in-Ok-false-clause-ended : goal.returns-in-Ok-false-clause-ended
 returns-in-Ok-false-clause-ended g c = λ _. c.in-Ok-false.ensures.ended c.in-Ok-false.field-0-test
@@ -73,8 +73,8 @@ returns-in-Err-clause-more g c = c.in-Err.ensures.more
 pub returns-in-Err-clause-on : goal.returns-in-Err-clause-on
 returns-in-Err-clause-on g c = c.in-Err.ensures.on
 
-pub returns-in-Err-take_after-clause-more : goal.returns-in-Err-take_after-clause-more
-returns-in-Err-take_after-clause-more g c = λ _.
+pub returns-in-Err-take_rest-clause-more : goal.returns-in-Err-take_rest-clause-more
+returns-in-Err-take_rest-clause-more g c = λ _.
     let some : length c.fill_or_end.new.buf ≡ 16 = search rules in
     more_came _ _ c.fill_or_end.new.buf (c.in-Ok-true.ensures.filled c.in-Ok-true.field-0-test) (omega (arith, some))
 

@@ -1,7 +1,7 @@
 use Rattle.std.proofs.Common.{◌≡◌, ◌++◌, length}
 use Rattle.std.specs.List.{AllByRecursion, flat_map}
 use Rattle.mongo_bson.specs.Framed.{IsFramed}
-use Rattle.mongo_wire.proofs.owned.owned_documents.Given as goal
+use Rattle.mongo_wire.proofs.copies.copies_of_documents.Given as goal
 
 -- the documents so far, and what is left
 abbrev pub invariant-documents : goal.invariant-documents

@@ -1,7 +1,7 @@
 use Rattle.std.proofs.lemmas.Bool.{false≢true}
 use Rattle.mongo_bson.proofs.Levels.{left_over}
 use Rattle.mongo_wire.proofs.AtFront.{documents_more, documents_back, documents_stop}
-use Rattle.mongo_wire.proofs.sections.are_documents.Goals as goal
+use Rattle.mongo_wire.proofs.copies.are_documents.Goals as goal
 
 pub documents-preserved : goal.documents-preserved
 documents-preserved c =

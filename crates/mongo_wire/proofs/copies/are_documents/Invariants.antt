@@ -1,6 +1,6 @@
 use Rattle.std.proofs.Common.{length}
 use Rattle.mongo_wire.specs.Sections.{AreDocuments}
-use Rattle.mongo_wire.proofs.sections.are_documents.Given as goal
+use Rattle.mongo_wire.proofs.copies.are_documents.Given as goal
 
 -- documents fill what is left just where they fill all
 abbrev pub invariant-documents : goal.invariant-documents
