@@ -1,5 +1,5 @@
 -- What an establishment takes of the counter and of the cache of salted passwords: what its SCRAM login takes, and nothing else.
-use Rattle.std.specs.Prelude.{ℤ, ◌⊎◌, Option, None, Some}
+use Rattle.std.specs.Prelude.{◌⊎◌, Option, None, Some}
 use Rattle.mongo_wire.specs.declared.error.ErrorKind.{ErrorKind}
 use Rattle.mongo_wire.specs.declared.frame_buffer.FrameBuffer.{FrameBuffer}
 use Rattle.mongo_command.specs.Conversation.{Reached}

@@ -1,5 +1,5 @@
 -- How an establishment ends over a link: all that is promised of it, for those who hand it on.
-use Rattle.std.specs.Prelude.{◌≡◌, ℕ, ℤ, ◌⊎◌, Some, List, Result, IfOk, IfErr}
+use Rattle.std.specs.Prelude.{◌≡◌, ℕ, ◌⊎◌, Some, List, Result, IfOk, IfErr}
 use Rattle.mongo_wire.specs.declared.error.ErrorKind.TheVariants.{IncompatibleServer, OutOfMemory}
 use Rattle.mongo_wire.specs.Outside.{Unfailed}
 use Rattle.mongo_command.specs.Conversation.{Said, Turn, refuses, Leads, LeftBy}

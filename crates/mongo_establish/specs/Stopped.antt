@@ -1,5 +1,5 @@
 -- Where an establishment was stopped and what it cost, by how far it had come, and what reply bytes call for.
-use Rattle.std.specs.Prelude.{◌≡◌, ℕ, ℤ, ◌⊎◌, List}
+use Rattle.std.specs.Prelude.{◌≡◌, ℕ, ◌⊎◌, List}
 use Rattle.mongo_wire.specs.declared.error.ErrorKind.{ErrorKind}
 use Rattle.mongo_command.specs.Conversation.{Said, refuses, ends, Reached, Stopped, Leads}
 use Rattle.mongo_command.specs.Exchange.{Point}

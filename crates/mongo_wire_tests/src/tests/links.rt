@@ -1,6 +1,6 @@
 use super::{EMPTY_MESSAGE, Told, empty_message, failing_link, given, giving, read_end, written};
 use bitflags::Flags;
-use mongo_wire::{MemoryLink, Message, Source};
+use mongo_wire::{MemoryLink, Message, Sink, Source};
 use std::alloc::Global;
 use std::test::Fail;
 
@@ -75,5 +75,23 @@ fn a_read_that_fails_at_any_call_is_told(rt: HostRuntime) -> Result<(), Fail> {
         };
         assert_eq!(rt; read_failing(rt.alloc(), call)?, wanted);
     }
+    Ok(())
+}
+
+// How many bytes are left of a link, and how many were written to it.
+fn sizes(link: &MemoryLink) -> (usize, usize) {
+    (link.left().len(), link.written().len())
+}
+
+#[test]
+fn a_link_is_rewound_and_cleared(rt: HostRuntime) -> Result<(), Fail> {
+    let mut link = giving(rt.alloc(), &[1, 2, 3])?;
+    assert!(rt; link.read(&mut [0; 2]) == Ok(2));
+    assert!(rt; link.write(&[4]) == Ok(1));
+    assert!(rt; sizes(&link) == (1, 1));
+    link.rewind();
+    assert!(rt; sizes(&link) == (3, 1));
+    link.clear_written();
+    assert!(rt; sizes(&link) == (3, 0));
     Ok(())
 }
