@@ -116,33 +116,11 @@ fn pending(alloc: Global, pool: PoolKind) -> Result<PendingConnection, Fail> {
     given(first_pending(alloc, pool)?.try_clone(alloc))
 }
 
-fn os(alloc: Global) -> Result<OsMetadata, Fail> {
-    let os_type = Text::from_slice(alloc, "linux")?;
-    Ok(OsMetadata {
-        os_type,
-        name: None,
-        architecture: Some(Text::from_slice(alloc, "x86_64")?),
-        version: None,
-    })
-}
-
 // A client that asks for this stable API, and says no more of itself than it has to.
 fn options(alloc: Global, server_api: Option<ServerApi>) -> Result<ClientOptions, Fail> {
-    let platform = Text::from_slice(alloc, "rattle / sync")?;
-    let platform_short = Text::from_slice(alloc, "rattle")?;
-    Ok(ClientOptions {
-        app_name: None,
-        driver_info: None,
-        server_api,
-        load_balanced: false,
-        os: os(alloc)?,
-        platform,
-        platform_short,
-        environment: Environment {
-            variables: Variables::new(alloc),
-            dockerenv: false,
-        },
-    })
+    let mut options = given(ClientOptions::new(alloc))?;
+    options.server_api = server_api;
+    Ok(options)
 }
 
 fn metadata_of(alloc: Global, options: &ClientOptions) -> Result<ClientMetadata, Fail> {

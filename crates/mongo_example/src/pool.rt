@@ -1,7 +1,7 @@
 ghost use Rattle.std.specs.Prelude.{◌≡◌, None, IfOk, IfErr};
 ghost use Rattle.mongo_wire.specs.declared.error.ErrorKind.TheVariants.{OutOfMemory};
 ghost use Rattle.mongo_establish.specs.Options.{options_of_establisher};
-ghost use Rattle.mongo_example.specs.Example.{example_user, example_options, example_spec, example_handshake};
+ghost use Rattle.mongo_example.specs.Example.{example_user, example_spec, example_handshake};
 
 use mongo_establish::{
     ClientOptions, ConnectionEstablisher, Credential, DEFAULT_MAX_ITERATIONS, Environment, Error,
@@ -138,34 +138,6 @@ fn spec(alloc: Global) -> Result<TopologySpec, Error>
     ensures spec { IfOk result (λ spec. spec ≡ example_spec) }
     ensures refused { IfErr result (λ e. e.kind ≡ OutOfMemory) }
 {
-    let options = options(alloc)?;
+    let options = ClientOptions::new(alloc)?;
     TopologySpec::of_client(alloc, options, DEFAULT_MAX_ITERATIONS)
-}
-
-// What the client says of itself.
-fn options(alloc: Global) -> Result<ClientOptions, Error>
-    ensures options { IfOk result (λ options. options ≡ example_options) }
-    ensures refused { IfErr result (λ e. e.kind ≡ OutOfMemory) }
-{
-    let os_type = Text::from_slice(alloc, "linux")?;
-    let platform = Text::from_slice(alloc, "rattle / sync")?;
-    let platform_short = Text::from_slice(alloc, "rattle")?;
-    Ok(ClientOptions {
-        app_name: None,
-        driver_info: None,
-        server_api: None,
-        load_balanced: false,
-        os: OsMetadata {
-            os_type,
-            name: None,
-            architecture: None,
-            version: None,
-        },
-        platform,
-        platform_short,
-        environment: Environment {
-            variables: Variables::new(alloc),
-            dockerenv: false,
-        },
-    })
 }

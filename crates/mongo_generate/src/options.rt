@@ -1,7 +1,7 @@
 ghost use Rattle.std.specs.Prelude.{◌≡◌, IfOk, IfErr};
 ghost use Rattle.mongo_wire.specs.declared.error.ErrorKind.TheVariants.{OutOfMemory};
 ghost use Rattle.mongo_establish.specs.Options.{options_of, options_of_establisher};
-ghost use Rattle.mongo_generate.specs.Options.{client_options, handshaker_options};
+ghost use Rattle.mongo_generate.specs.Options.{handshaker_options};
 
 use mongo_bson::{BsonFault, Text};
 use mongo_establish::{
@@ -40,44 +40,6 @@ fn spec(alloc: Global) -> Result<TopologySpec, Error>
     ensures options { IfOk result (λ spec. options_of spec ≡ handshaker_options) }
     ensures refused { IfErr result (λ e. e.kind ≡ OutOfMemory) }
 {
-    let options = client_options(alloc)?;
+    let options = ClientOptions::new(alloc)?;
     TopologySpec::of_client(alloc, options, DEFAULT_MAX_ITERATIONS)
-}
-
-// What the client says of itself.
-fn client_options(alloc: Global) -> Result<ClientOptions, BsonFault>
-    ensures options { IfOk result (λ options. options ≡ client_options) }
-    ensures refused { IfErr result (λ fault. fault ≡ BsonFault.OutOfMemory) }
-{
-    let platform = Text::from_slice(alloc, "rattle / sync")?;
-    let platform_short = Text::from_slice(alloc, "rattle")?;
-    let os = client_os(alloc)?;
-    Ok(ClientOptions {
-        app_name: None,
-        driver_info: None,
-        server_api: None,
-        load_balanced: false,
-        os,
-        platform,
-        platform_short,
-        environment: Environment {
-            variables: Variables::new(alloc),
-            dockerenv: false,
-        },
-    })
-}
-
-// The system that it names. It is made last, in a function of its own, so that fewer texts are dropped at a refusal.
-fn client_os(alloc: Global) -> Result<OsMetadata, BsonFault>
-    ensures os { IfOk result (λ os. os ≡ client_options.os) }
-    ensures refused { IfErr result (λ fault. fault ≡ BsonFault.OutOfMemory) }
-{
-    let os_type = Text::from_slice(alloc, "linux")?;
-    let architecture = Text::from_slice(alloc, "x86_64")?;
-    Ok(OsMetadata {
-        os_type,
-        name: None,
-        architecture: Some(architecture),
-        version: None,
-    })
 }

@@ -1,11 +1,37 @@
 -- The metadata of a client's options, and of the libraries that add themselves.
-use Rattle.std.specs.Prelude.{◌≡◌, ℕ, ◌⊎◌, Option, None, Some, option_map, List, [], ◌∷◌, ◌++◌, codes, Contains}
+use Rattle.std.specs.Prelude.{◌≡◌, ℕ, ◌⊎◌, false, Option, None, Some, option_map, List, [], ◌∷◌, ◌++◌, codes, Contains}
 use Rattle.mongo_meta.specs.declared.client_metadata.AppMetadata.{AppMetadata}
 use Rattle.mongo_meta.specs.declared.client_metadata.ClientMetadata.{ClientMetadata}
 use Rattle.mongo_meta.specs.declared.client_metadata.DriverMetadata.{DriverMetadata}
 use Rattle.mongo_meta.specs.declared.client_options.ClientOptions.{ClientOptions}
 use Rattle.mongo_meta.specs.declared.driver_info.DriverInfo.{DriverInfo}
+use Rattle.mongo_meta.specs.declared.os_metadata.OsMetadata.{OsMetadata}
 use Rattle.mongo_meta.specs.Providers.{runtime_environment_in}
+
+-- ---- a client of which nothing is said
+
+abbrev pub default_os : OsMetadata
+default_os = record { os_type = codes "linux"; name = None; architecture = Some (codes "x86_64"); version = None }
+
+abbrev pub default_platform : List ℕ
+default_platform = codes "rattle / sync"
+
+abbrev pub default_platform_short : List ℕ
+default_platform_short = codes "rattle"
+
+abbrev pub default_options : ClientOptions
+default_options = record {
+  app_name = None;
+  driver_info = None;
+  server_api = None;
+  load_balanced = false;
+  os = default_os;
+  platform = default_platform;
+  platform_short = default_platform_short;
+  environment = record { variables = []; dockerenv = false };
+}
+
+-- ---- libraries
 
 abbrev pub bar : List ℕ
 bar = codes "|"

@@ -26,7 +26,7 @@ mod runtime_environment;
 mod text_fields;
 
 pub use client_metadata::{AppMetadata, ClientMetadata, DriverMetadata};
-pub use client_options::ClientOptions;
+pub use client_options::{ClientOptions, DEFAULT_PLATFORM, DEFAULT_PLATFORM_SHORT};
 pub use driver_info::{DriverInfo, DriverInfos};
 pub use environment::{Environment, Variable, Variables};
 pub use faas::FaasEnvironmentName;

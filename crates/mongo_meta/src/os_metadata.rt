@@ -23,6 +23,22 @@ pub struct OsMetadata {
 impl OsMetadata {
     ghost use Rattle.mongo_meta.specs.Metadata.{os_document};
     ghost use Rattle.mongo_meta.specs.Client.{type_alone};
+    ghost use Rattle.mongo_meta.specs.Options.{default_os};
+
+    /// A `linux` on an `x86_64`, whose name and version aren't said.
+    pub fn new(alloc: Global) -> Result<OsMetadata, BsonFault>
+        ensures os { IfOk result (λ os. os ≡ default_os) }
+        ensures refused { IfErr result (λ fault. fault ≡ BsonFault.OutOfMemory) }
+    {
+        let os_type = Text::from_slice(alloc, "linux")?;
+        let architecture = Text::from_slice(alloc, "x86_64")?;
+        Ok(OsMetadata {
+            os_type,
+            name: None,
+            architecture: Some(architecture),
+            version: None,
+        })
+    }
 
     /// A copy.
     pub fn try_clone(&self, alloc: Global) -> Result<OsMetadata, BsonFault>

@@ -6,6 +6,7 @@ use Rattle.mongo_command.specs.Command.{version_text}
 use Rattle.mongo_command.specs.declared.server_api.ServerApi.{ServerApi}
 use Rattle.mongo_command.specs.declared.server_api.ServerApiVersion.{ServerApiVersion}
 use Rattle.mongo_command.specs.declared.server_api.ServerApiVersion.TheVariants.{V1}
+use Rattle.mongo_meta.specs.Options.{default_os, default_platform, default_platform_short}
 use Rattle.mongo_meta.specs.declared.client_options.ClientOptions.{ClientOptions}
 use Rattle.mongo_meta.specs.declared.driver_info.DriverInfo.{DriverInfo}
 use Rattle.mongo_meta.specs.declared.environment.Environment.{Environment}
@@ -13,17 +14,6 @@ use Rattle.mongo_meta.specs.declared.environment.Variable.{Variable}
 use Rattle.mongo_meta.specs.declared.os_metadata.OsMetadata.{OsMetadata}
 use Rattle.mongo_settings.specs.Keys.{driver_info_keys, os_keys, server_api_keys, load_balanced_key, app_name_key, driver_info_key, server_api_key, os_setting_key, platform_setting_key, platform_short_key, environment_key, dockerenv_key, name_setting_key, version_setting_key, type_setting_key, architecture_key, strict_key, deprecation_errors_key}
 use Rattle.mongo_settings.specs.Kinds.{◌>>=◌, optional, required, or_absent, object_of, two_in}
-
--- ---- what holds where a key is absent
-
-abbrev pub default_os : OsMetadata
-default_os = record { os_type = codes "linux"; name = None; architecture = Some (codes "x86_64"); version = None }
-
-abbrev pub default_platform : List ℕ
-default_platform = codes "rattle / sync"
-
-abbrev pub default_platform_short : List ℕ
-default_platform_short = codes "rattle"
 
 -- ---- the values of keys
 

@@ -1,16 +1,18 @@
 //! What settings say of the client.
-ghost use Rattle.std.specs.Prelude.{Some};
 ghost use Rattle.serde_json.specs.View.{view};
 ghost use Rattle.serde_json.specs.Find.{as_str};
+ghost use Rattle.mongo_meta.specs.Options.{default_os};
 ghost use Rattle.mongo_settings.specs.Keys.{os_setting_key};
 ghost use Rattle.mongo_settings.specs.Kinds.{optional, or_absent, Means};
-ghost use Rattle.mongo_settings.specs.Options.{default_os, load_balanced_in, os_in};
+ghost use Rattle.mongo_settings.specs.Options.{load_balanced_in, os_in};
 
 use crate::settings::reading::{SettingValue, judge_object, optional, required};
 use crate::settings::{SettingsError, keys};
 use mongo_bson::Text;
 use mongo_command::{ServerApi, ServerApiVersion, both};
-use mongo_meta::{ClientOptions, DriverInfo, Environment, OsMetadata};
+use mongo_meta::{
+    ClientOptions, DEFAULT_PLATFORM, DEFAULT_PLATFORM_SHORT, DriverInfo, Environment, OsMetadata,
+};
 use serde_json::Value;
 use std::alloc::Global;
 
@@ -25,8 +27,8 @@ impl SettingValue for ClientOptions {
         let server_api = optional::<ServerApi>(alloc, value, keys::SERVER_API)?;
         let load_balanced = is_load_balanced(alloc, value)?;
         let platforms = both(
-            text_or(alloc, value, keys::PLATFORM, "rattle / sync"),
-            text_or(alloc, value, keys::PLATFORM_SHORT, "rattle"),
+            text_or(alloc, value, keys::PLATFORM, DEFAULT_PLATFORM),
+            text_or(alloc, value, keys::PLATFORM_SHORT, DEFAULT_PLATFORM_SHORT),
         );
         let client = both(
             Environment::read(alloc, value),
@@ -74,20 +76,8 @@ fn os_or_default(alloc: Global, object: &Value) -> Result<OsMetadata, SettingsEr
 {
     match optional::<OsMetadata>(alloc, object, keys::OS)? {
         Some(os) => Ok(os),
-        None => default_os(alloc),
+        None => Ok(OsMetadata::new(alloc)?),
     }
-}
-
-// The operating system and the machine where settings name none.
-fn default_os(alloc: Global) -> Result<OsMetadata, SettingsError>
-    ensures { Means (λ os. os) result (Some default_os) }
-{
-    Ok(OsMetadata {
-        os_type: Text::from_slice(alloc, "linux")?,
-        name: None,
-        architecture: Some(Text::from_slice(alloc, "x86_64")?),
-        version: None,
-    })
 }
 
 /// An object with what a library says of itself: its name, and its version and platform, which are optional.

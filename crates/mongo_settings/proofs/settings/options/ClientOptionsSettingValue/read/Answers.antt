@@ -8,7 +8,8 @@ use Rattle.mongo_meta.specs.declared.environment.Environment.{Environment}
 use Rattle.mongo_meta.specs.declared.os_metadata.OsMetadata.{OsMetadata}
 use Rattle.mongo_settings.specs.Keys.{platform_setting_key, platform_short_key, app_name_key, driver_info_key, os_setting_key}
 use Rattle.mongo_settings.specs.Kinds.{Means, optional, or_absent}
-use Rattle.mongo_settings.specs.Options.{client_options_in, environment_in, driver_info_in, os_in, default_platform, default_platform_short, default_os}
+use Rattle.mongo_meta.specs.Options.{default_os, default_platform, default_platform_short}
+use Rattle.mongo_settings.specs.Options.{client_options_in, environment_in, driver_info_in, os_in}
 use Rattle.mongo_settings.proofs.Parts.{paired, both_mean, paired_parts, six_nothing}
 use Rattle.mongo_settings.proofs.settings.options.ClientOptionsSettingValue.read.Goals as goal
 
