@@ -1,3 +1,4 @@
+pub mod Built
 pub mod Login
 pub mod Task
 pub mod Work

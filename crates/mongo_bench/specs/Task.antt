@@ -8,7 +8,7 @@ use Rattle.mongo_bson.specs.Document.{IsReadable, maximum_depth}
 use Rattle.mongo_mac.specs.Digests.{sha1, sha256}
 use Rattle.mongo_mac.specs.Hi.{hi_of}
 use Rattle.mongo_bench.specs.declared.run.BenchStatus.{BenchStatus}
-use Rattle.mongo_bench.specs.declared.run.BenchStatus.TheVariants.{Done, Refused, Usage, SinkFault, NoMemory}
+use Rattle.mongo_bench.specs.declared.run.BenchStatus.TheVariants.{Done, Usage, SinkFault, NoMemory}
 use Rattle.mongo_bench.specs.declared.task.Hash.{Hash}
 use Rattle.mongo_bench.specs.declared.task.Hash.TheVariants.{Sha1, Sha256}
 use Rattle.mongo_bench.specs.declared.task.Pass.{Pass}
@@ -151,7 +151,6 @@ HasPrinted task old new = (text : List ℕ) × Prints task text × Appends old n
 -- the number that the process ends with
 abbrev pub bench_code : BenchStatus → ℕ
 bench_code Done = 0
-bench_code Refused = 1
 bench_code Usage = 3
 bench_code SinkFault = 5
 bench_code NoMemory = 6

@@ -1,15 +1,20 @@
-ghost use Rattle.std.specs.Prelude.{◌≡◌, ◌≢◌, IfOk};
+ghost use Rattle.std.specs.Prelude.{◌≡◌, ◌≢◌, None, IfOk};
+ghost use Rattle.mongo_wire.specs.Bytes.{first_maximum};
+ghost use Rattle.mongo_wire.specs.Message.{Fits};
+ghost use Rattle.mongo_bench.specs.Built.{IsWholeFrame};
 ghost use Rattle.mongo_bench.specs.Task.{HasPrinted};
 ghost use Rattle.mongo_bench.specs.Work.{work_of_frames};
 
+use crate::building::{empty_document, put};
 use crate::run::{BenchStatus, RanTask};
 use crate::task::{BenchTask, Direction, FrameSize};
 use crate::walking::write_number;
 use crate::work::{Passed, read_frames, read_owned_frames, write_frames};
 use bitflags::Flags;
-use mongo_bson::{RawDocumentBuf, RawValue};
-use mongo_wire::{Error, Message, MessageFlags, RequestIds, Sequences, StdSink};
-use std::alloc::Global;
+use mongo_bson::{Bytes, RawValue};
+use mongo_establish::want_of_memory;
+use mongo_wire::{MemoryLink, Message, MessageFlags, RequestIds, Sequences};
+use std::alloc::{AllocError, Global};
 use std::io::Write;
 
 // How many bytes a frame has around the content of its document: header, flags and kind byte, and of the document the
@@ -30,7 +35,7 @@ pub fn run_frames<W: Write>(
 {
     match pass_frames(alloc, direction, size, count) {
         Ok(passed) => RanTask::written(write_number(passed.last, out), passed.work),
-        Err(error) => RanTask::refused(&error),
+        Err(_) => RanTask::without_memory(),
     }
 }
 
@@ -40,34 +45,46 @@ fn pass_frames(
     direction: Direction,
     size: FrameSize,
     count: u32,
-) -> Result<Passed<usize>, Error>
+) -> Result<Passed<usize>, AllocError>
     ensures { IfOk result (λ passed. passed.work ≡ work_of_frames direction count) }
 {
     let message = message_of_size(alloc, size)?;
     match direction {
         Direction::Write => write_frames(alloc, &message, count),
-        Direction::Read => read_frames(alloc, frame_of(alloc, &message)?.as_slice(), count),
+        Direction::Read => read_frames(alloc, frame_of(alloc, &message)?.as_bytes(), count),
         Direction::ReadOwned => read_owned_frames(
             alloc,
-            frame_of(alloc, &message)?.as_slice(),
+            frame_of(alloc, &message)?.as_bytes(),
             count,
         ),
     }
 }
 
 // The bytes of the message's frame.
-fn frame_of(alloc: Global, message: &Message) -> Result<Vec<u8>, Error> {
-    let mut held = Vec::new(alloc);
-    let mut sink = StdSink::new(&mut held);
-    message.write_op_msg_to(alloc, &mut sink, None, &mut RequestIds::new(0))?;
-    Ok(held)
+fn frame_of(alloc: Global, message: &Message) -> Result<Bytes, AllocError>
+    requires fits { Fits first_maximum message.now }
+    requires unsummed { message.now.checksum ≡ None }
+    ensures { IfOk result IsWholeFrame }
+{
+    let mut link = MemoryLink::new(alloc, Bytes::new(alloc));
+    match message.write_op_msg_to(alloc, &mut link, None, &mut RequestIds::new(0)) {
+        Ok(()) => Ok(link.into_written()),
+        Err(error) => Err(want_of_memory(error)),
+    }
 }
 
 // A message whose frame has this size: its document holds one binary value.
-fn message_of_size(alloc: Global, size: FrameSize) -> Result<Message, Error> {
+fn message_of_size(alloc: Global, size: FrameSize) -> Result<Message, AllocError>
+    ensures fits { IfOk result (Fits first_maximum) }
+    ensures unsummed { IfOk result (λ message. message.checksum ≡ None) }
+{
     let content = vec![in alloc; 0x61; size.bytes() - AROUND]?;
-    let mut document_payload = RawDocumentBuf::new(alloc)?;
-    document_payload.append("data", RawValue::Binary(0, content.as_slice()))?;
+    let mut document_payload = empty_document(alloc)?;
+    put(
+        &mut document_payload,
+        "data",
+        RawValue::Binary(0, content.as_slice()),
+    )?;
     Ok(Message {
         document_payload,
         document_sequences: Sequences::new(alloc),

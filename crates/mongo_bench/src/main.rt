@@ -13,12 +13,14 @@
 //!   cache, and prints how many both sides accepted. `bench/login` measures it.
 #![tactic(auto)]
 
+mod building;
 mod documents;
 mod frames;
 mod insert;
 mod login;
 mod peers;
 mod run;
+mod slice_source;
 mod task;
 mod walking;
 mod work;

@@ -11,7 +11,6 @@ use crate::task::{BenchTask, EXAMPLE_PASSWORD, EXAMPLE_SALT, Hash, task_of};
 use crate::walking::{run_document, run_walk};
 use crate::work::Work;
 use mongo_mac::{Sha1Fn, Sha256Fn, Steps, Tag, hi};
-use mongo_wire::{Error, ErrorKind};
 use std::alloc::Global;
 use std::io;
 use std::io::Write;
@@ -22,13 +21,11 @@ use std::sync::ledger::{Blank, Ledger};
 pub enum BenchStatus {
     /// The task was run and its line written.
     Done,
-    /// The library refused what the task gave it.
-    Refused,
     /// The words ask for no task.
     Usage,
     /// The writer failed.
     SinkFault,
-    /// Memory ran out, also for the words.
+    /// Memory ran out, also for the words. The library refuses what a task gives it for no other cause.
     NoMemory,
 }
 
@@ -39,7 +36,6 @@ impl BenchStatus {
     {
         match self {
             BenchStatus::Done => 0,
-            BenchStatus::Refused => 1,
             BenchStatus::Usage => 3,
             BenchStatus::SinkFault => 5,
             BenchStatus::NoMemory => 6,
@@ -77,21 +73,6 @@ impl RanTask {
         RanTask {
             status: BenchStatus::NoMemory,
             work: Work::nothing(),
-        }
-    }
-
-    /// The end of a run in which the library refused a call, for want of memory or for another cause.
-    pub fn refused(error: &Error) -> RanTask
-        ensures memory { (result.status ≡ BenchStatus.NoMemory) ↔ (error.now.kind ≡ ErrorKind.OutOfMemory) }
-        ensures other { result.status ≢ BenchStatus.NoMemory → result.status ≡ BenchStatus.Refused }
-        ensures work { result.work ≡ nothing_done }
-    {
-        match error.kind {
-            ErrorKind::OutOfMemory => RanTask::without_memory(),
-            _ => RanTask {
-                status: BenchStatus::Refused,
-                work: Work::nothing(),
-            },
         }
     }
 }

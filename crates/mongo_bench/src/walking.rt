@@ -10,7 +10,6 @@ use crate::task::{BenchTask, DocumentShape, Pass};
 use crate::work::{Work, iterate, judge};
 use itoa::Buffer;
 use mongo_bson::{RawDocument, RawValue};
-use mongo_wire::Error;
 use std::alloc::Global;
 use std::io;
 use std::io::Write;
@@ -33,7 +32,7 @@ pub fn run_walk<W: Write>(
 {
     match document_of_shape(alloc, shape) {
         Ok(document) => walk(document.borrow(), pass, count, out),
-        Err(fault) => RanTask::refused(&Error::from(fault)),
+        Err(_) => RanTask::without_memory(),
     }
 }
 
@@ -64,7 +63,7 @@ pub fn run_document<W: Write>(alloc: Global, shape: DocumentShape, out: &mut W) 
 {
     match document_of_shape(alloc, shape) {
         Ok(document) => RanTask::written(write_bytes(document.as_bytes(), out), Work::nothing()),
-        Err(fault) => RanTask::refused(&Error::from(fault)),
+        Err(_) => RanTask::without_memory(),
     }
 }
 

@@ -1,17 +1,22 @@
 ghost use Rattle.std.specs.Prelude.{◌≡◌, ◌+◌, ◌-◌, ◌^◌, ◌<◌, ◌≤◌, ◌↔◌, [], IsTrue, OnOk, IfOk};
 ghost use Rattle.mongo_bson.specs.Document.{IsReadable, maximum_depth};
+ghost use Rattle.mongo_wire.specs.Bytes.{first_maximum};
+ghost use Rattle.mongo_wire.specs.Message.{Fits};
 ghost use Rattle.mongo_scram.specs.Cache.{entries_of};
 ghost use Rattle.mongo_scram.specs.Costs.{ledgers};
 ghost use Rattle.mongo_establish.specs.KeyCosts.{StoresKey};
+ghost use Rattle.mongo_bench.specs.Built.{IsWholeFrame};
 ghost use Rattle.mongo_bench.specs.Login.{bench_key, AreReady};
 ghost use Rattle.mongo_bench.specs.Work.{nothing_done, only_built, only_iterated, only_judged, only_logged_in, only_read, only_read_owned, only_written};
 
 use crate::insert::insert_document;
 use crate::peers::Peers;
+use crate::slice_source::SliceSource;
 use crate::walking::elements_in;
-use mongo_bson::RawDocument;
+use mongo_bson::{Bytes, RawDocument};
+use mongo_establish::want_of_memory;
 use mongo_mac::Steps;
-use mongo_wire::{Error, FrameBuffer, Message, RequestIds, StdSink, StdSource, read_frame};
+use mongo_wire::{FrameBuffer, MemoryLink, Message, RequestIds, read_frame};
 use std::alloc::{AllocError, Global};
 use std::sync::ledger::Ledger;
 
@@ -70,24 +75,30 @@ pub fn judge(document: RawDocument<'_>, count: u32) -> Passed<bool>
 }
 
 /// Writes the message's frame so often over itself into memory that is kept, and gives how many bytes the last one had.
-pub fn write_frames(alloc: Global, message: &Message, count: u32) -> Result<Passed<usize>, Error>
+pub fn write_frames(
+    alloc: Global,
+    message: &Message,
+    count: u32,
+) -> Result<Passed<usize>, AllocError>
+    requires fits { Fits first_maximum message.now }
     ensures { IfOk result (λ passed. passed.work ≡ only_written count) }
 {
     let mut ids = RequestIds::new(0);
-    let mut held = Vec::new(alloc);
+    let mut link = MemoryLink::new(alloc, Bytes::new(alloc));
     let mut work = Work::nothing();
     'passes: while work.written < count {
-        held.clear();
-        work.write(alloc, message, &mut ids, &mut held)?;
+        link.clear_written();
+        work.write(alloc, message, &mut ids, &mut link)?;
     }
     Ok(Passed {
-        last: held.len(),
+        last: link.written().len(),
         work,
     })
 }
 
 /// Reads the frame so often into one buffer, and gives how many bytes the last one had.
-pub fn read_frames(alloc: Global, frame: &[u8], count: u32) -> Result<Passed<usize>, Error>
+pub fn read_frames(alloc: Global, frame: &[u8], count: u32) -> Result<Passed<usize>, AllocError>
+    requires whole { IsWholeFrame frame.now }
     ensures { IfOk result (λ passed. passed.work ≡ only_read count) }
 {
     let mut buffer = FrameBuffer::new(alloc);
@@ -100,7 +111,12 @@ pub fn read_frames(alloc: Global, frame: &[u8], count: u32) -> Result<Passed<usi
 }
 
 /// Reads the frame so often into a message that owns its parts, and gives how many bytes the last one had.
-pub fn read_owned_frames(alloc: Global, frame: &[u8], count: u32) -> Result<Passed<usize>, Error>
+pub fn read_owned_frames(
+    alloc: Global,
+    frame: &[u8],
+    count: u32,
+) -> Result<Passed<usize>, AllocError>
+    requires whole { IsWholeFrame frame.now }
     ensures { IfOk result (λ passed. passed.work ≡ only_read_owned count) }
 {
     let mut last = 0;
@@ -112,7 +128,7 @@ pub fn read_owned_frames(alloc: Global, frame: &[u8], count: u32) -> Result<Pass
 }
 
 /// Builds the command of an insert so often, and gives how many bytes the last one had.
-pub fn build(alloc: Global, count: u32) -> Result<Passed<usize>, Error>
+pub fn build(alloc: Global, count: u32) -> Result<Passed<usize>, AllocError>
     ensures { IfOk result (λ passed. passed.work ≡ only_built count) }
 {
     let mut last = 0;
@@ -185,21 +201,25 @@ impl Work {
         readable
     }
 
-    // One frame, written behind what is held.
+    // One frame, written behind what was written to the link.
     fn write(
         &mut self,
         alloc: Global,
         message: &Message,
         ids: &mut RequestIds,
-        held: &mut Vec<u8>,
-    ) -> Result<(), Error>
-        requires { self.old.written < 2 ^ 32 - 1 }
+        link: &mut MemoryLink,
+    ) -> Result<(), AllocError>
+        requires room { self.old.written < 2 ^ 32 - 1 }
+        requires fits { Fits first_maximum message.now }
         ensures { OnOk result (self.new ≡ record self.old { written = self.old.written + 1 }) }
     {
-        let mut sink = StdSink::new(held);
-        message.write_op_msg_to(alloc, &mut sink, None, ids)?;
-        self.written += 1;
-        Ok(())
+        match message.write_op_msg_to(alloc, link, None, ids) {
+            Ok(()) => {
+                self.written += 1;
+                Ok(())
+            }
+            Err(error) => Err(want_of_memory(error)),
+        }
     }
 
     // One frame, read into the buffer: how many bytes it has.
@@ -208,31 +228,41 @@ impl Work {
         alloc: Global,
         frame: &[u8],
         buffer: &mut FrameBuffer,
-    ) -> Result<usize, Error>
-        requires { self.old.read < 2 ^ 32 - 1 }
+    ) -> Result<usize, AllocError>
+        requires room { self.old.read < 2 ^ 32 - 1 }
+        requires whole { IsWholeFrame frame.now }
         ensures { OnOk result (self.new ≡ record self.old { read = self.old.read + 1 }) }
     {
-        let mut source = StdSource::new(frame);
-        let message = read_frame(alloc, &mut source, None, buffer)?;
-        let length = message.sections.len() + HEADER_AND_FLAGS;
-        self.read += 1;
-        Ok(length)
+        let mut source = SliceSource::new(frame);
+        match read_frame(alloc, &mut source, None, buffer) {
+            Ok(message) => {
+                let length = message.sections.len() + HEADER_AND_FLAGS;
+                self.read += 1;
+                Ok(length)
+            }
+            Err(error) => Err(want_of_memory(error)),
+        }
     }
 
     // One frame, read into a message that owns its document: how many bytes the frame has where that is all it holds.
-    fn read_owned(&mut self, alloc: Global, frame: &[u8]) -> Result<usize, Error>
-        requires { self.old.read_owned < 2 ^ 32 - 1 }
+    fn read_owned(&mut self, alloc: Global, frame: &[u8]) -> Result<usize, AllocError>
+        requires room { self.old.read_owned < 2 ^ 32 - 1 }
+        requires whole { IsWholeFrame frame.now }
         ensures { OnOk result (self.new ≡ record self.old { read_owned = self.old.read_owned + 1 }) }
     {
-        let mut source = StdSource::new(frame);
-        let message = Message::read_from(alloc, &mut source, None)?;
-        let document = message.document_payload.as_bytes().len();
-        self.read_owned += 1;
-        Ok(document + HEADER_AND_FLAGS + 1)
+        let mut source = SliceSource::new(frame);
+        match Message::read_from(alloc, &mut source, None) {
+            Ok(message) => {
+                let document = message.document_payload.as_bytes().len();
+                self.read_owned += 1;
+                Ok(document + HEADER_AND_FLAGS + 1)
+            }
+            Err(error) => Err(want_of_memory(error)),
+        }
     }
 
     // One command of an insert: how many bytes its document has.
-    fn build(&mut self, alloc: Global) -> Result<usize, Error>
+    fn build(&mut self, alloc: Global) -> Result<usize, AllocError>
         requires { self.old.built < 2 ^ 32 - 1 }
         ensures { OnOk result (self.new ≡ record self.old { built = self.old.built + 1 }) }
     {

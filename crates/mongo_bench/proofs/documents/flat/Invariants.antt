@@ -1,0 +1,5 @@
+use Rattle.std.proofs.Common.{◌≤◌, ◌+◌, ◌*◌, length}
+use Rattle.mongo_bench.proofs.documents.flat.Given as goal
+
+abbrev pub invariant-loop-i : goal.invariant-loop-i
+invariant-loop-i l = (5 ≤ length l.document) × (length l.document ≤ 5 + 31 * l.i)
