@@ -30,6 +30,8 @@ pub fn empty_array(alloc: Global) -> Result<RawArrayBuf, AllocError>
 }
 
 /// Puts an element at the end of a document that has room for it.
+// It is inlined, as the writer below it is: what is measured is a caller that names key and kind.
+#[inline(always)]
 pub fn put(document: &mut RawDocumentBuf, key: &str, value: RawValue<'_>) -> Result<(), AllocError>
     requires framed { 5 ≤ length document.old }
     requires named { ¬ Contains key.now 0 }
@@ -58,6 +60,7 @@ pub fn put_numbered(
 }
 
 /// Puts a value at the end of an array that has room for it.
+#[inline(always)]
 pub fn push(array: &mut RawArrayBuf, value: RawValue<'_>) -> Result<(), AllocError>
     requires room { length array.old.document + (most_of_number + length (bytes_of value)) ≤ maximum_length }
     ensures { OnOk result (length array.new.document ≤ length array.old.document + (most_of_number + length (bytes_of value.entry))) }

@@ -185,7 +185,7 @@ fn digests_and_their_xor(rt: HostRuntime) -> Result<(), Fail> {
     );
     assert!(rt; mixed == Tag::from_slice(&[0b0110, 0, 7]));
     // The text of a tag that may be a key shows none of its bytes.
-    assert_eq!(rt; format!(in rt.alloc(); "{mixed:?}")?.as_str(), "Tag { .. }");
+    assert!(rt; format!(in rt.alloc(); "{mixed:?}")?.as_str() == "Tag { .. }");
     Ok(())
 }
 
