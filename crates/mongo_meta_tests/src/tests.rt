@@ -3,8 +3,10 @@ mod environments;
 mod forms;
 
 use mongo_bson::{BsonFault, RawDocumentBuf, Text};
+use mongo_command::both;
 use mongo_meta::{
-    ClientMetadata, ClientOptions, DriverInfo, Environment, OsMetadata, Variable, Variables,
+    ClientMetadata, ClientOptions, DEFAULT_PLATFORM, DEFAULT_PLATFORM_SHORT, DriverInfo,
+    Environment, OsMetadata, Variable, Variables,
 };
 use mongo_wire::Error;
 use std::alloc::Global;
@@ -97,15 +99,23 @@ fn driver_info(alloc: Global, given: &Given<'_>) -> Result<Option<DriverInfo>, B
 }
 
 fn options(alloc: Global, given: &Given<'_>) -> Result<ClientOptions, BsonFault> {
+    let platforms = both(
+        Text::from_slice(alloc, DEFAULT_PLATFORM),
+        Text::from_slice(alloc, DEFAULT_PLATFORM_SHORT),
+    );
+    let system = both(os(alloc, given), environment(alloc, given.row));
+    let client = both(text(alloc, given.app_name), driver_info(alloc, given));
+    let ((platforms, system), (app_name, driver_info)) = both(both(platforms, system), client)?;
+    let ((platform, platform_short), (os, environment)) = (platforms, system);
     Ok(ClientOptions {
         server_api: None,
         load_balanced: false,
-        platform: Text::from_slice(alloc, "rattle / sync")?,
-        platform_short: Text::from_slice(alloc, "rattle")?,
-        os: os(alloc, given)?,
-        environment: environment(alloc, given.row)?,
-        app_name: text(alloc, given.app_name)?,
-        driver_info: driver_info(alloc, given)?,
+        platform,
+        platform_short,
+        os,
+        environment,
+        app_name,
+        driver_info,
     })
 }
 
