@@ -75,6 +75,20 @@ fn ended<T, R: Tells<T> + Drop, E: Tells<T> + Drop>(answer: Result<R, E>) -> T {
     }
 }
 
+// Puts these pieces at the end, one after another.
+fn push_all(bytes: &mut Vec<u8>, pieces: &[&[u8]]) -> Result<(), Fail> {
+    for piece in pieces {
+        bytes.extend_from_slice(piece)?;
+    }
+    Ok(())
+}
+
+fn joined(alloc: Global, pieces: &[&[u8]]) -> Result<Vec<u8>, Fail> {
+    let mut bytes = Vec::new(alloc);
+    push_all(&mut bytes, pieces)?;
+    Ok(bytes)
+}
+
 // A link that gives these bytes.
 fn link_of(alloc: Global, replies: &[u8]) -> Result<MemoryLink, Fail> {
     Ok(MemoryLink::new(alloc, Bytes::from_slice(alloc, replies)?))

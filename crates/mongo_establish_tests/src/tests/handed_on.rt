@@ -85,7 +85,9 @@ fn api_of(alloc: Global, options: &ClientOptions) -> Result<Option<ServerApi>, F
 // Whether a login's commands carry the stable API that a client's options give.
 fn carries(alloc: Global, api: Option<ServerApi>) -> Result<bool, Fail> {
     let options = options(alloc, api)?;
-    Ok(api_of(alloc, &options)? == api)
+    let carried = api_of(alloc, &options);
+    drop(options);
+    Ok(carried? == api)
 }
 
 #[test]

@@ -2,7 +2,7 @@ ghost use Rattle.std.specs.Prelude.{◌≤◌};
 
 use super::ends::{End, end_of, is_same_end};
 use super::failing::{ACCEPTED, CHALLENGE, NEGOTIATED};
-use super::{PoolKind, SEVENTH, Who, made_in_memory, new_state};
+use super::{PoolKind, SEVENTH, Who, joined, made_in_memory, new_state, push_all};
 use mongo_establish::{Bytes, MemoryLink};
 use std::alloc::Global;
 use std::test::Fail;
@@ -17,22 +17,35 @@ fn push_letters(bytes: &mut Vec<u8>, count: u32) -> Result<(), Fail> {
     Ok(())
 }
 
+// A front, so many letters, and a back.
+fn with_letters(
+    alloc: Global,
+    front: &[&[u8]],
+    count: u32,
+    back: &[&[u8]],
+) -> Result<Vec<u8>, Fail> {
+    let mut bytes = joined(alloc, front)?;
+    push_letters(&mut bytes, count)?;
+    push_all(&mut bytes, back)?;
+    Ok(bytes)
+}
+
 // What a login hears that starts after its hello, but for a last reply whose verifier fills a frame of this length.
 fn heard_with_verifier(alloc: Global, length: u32) -> Result<Vec<u8>, Fail>
     requires { 109 ≤ length }
 {
-    let mut heard = Vec::from_slice(alloc, NEGOTIATED)?;
-    heard.extend_from_slice(CHALLENGE)?;
     let reply = *ACCEPTED;
-    heard.extend_from_slice(&length.to_le_bytes())?;
-    heard.extend_from_slice(&reply[4..21])?;
-    heard.extend_from_slice(&(length - 21).to_le_bytes())?;
-    heard.extend_from_slice(&reply[25..73])?;
-    heard.extend_from_slice(&(length - 79).to_le_bytes())?;
-    heard.extend_from_slice(b"\0v=")?;
-    push_letters(&mut heard, length - 81)?;
-    heard.push(0)?;
-    Ok(heard)
+    let front: [&[u8]; 8] = [
+        NEGOTIATED,
+        CHALLENGE,
+        &length.to_le_bytes(),
+        &reply[4..21],
+        &(length - 21).to_le_bytes(),
+        &reply[25..73],
+        &(length - 79).to_le_bytes(),
+        b"\0v=",
+    ];
+    with_letters(alloc, &front, length - 81, &[b"\0"])
 }
 
 // The same with its own last reply, and a challenge with a field more, of bytes without a meaning, so that its frame has
@@ -40,28 +53,25 @@ fn heard_with_verifier(alloc: Global, length: u32) -> Result<Vec<u8>, Fail>
 fn heard_with_filler(alloc: Global, length: u32) -> Result<Vec<u8>, Fail>
     requires { 175 ≤ length }
 {
-    let mut heard = Vec::from_slice(alloc, NEGOTIATED)?;
     let reply = *CHALLENGE;
-    heard.extend_from_slice(&length.to_le_bytes())?;
-    heard.extend_from_slice(&reply[4..21])?;
-    heard.extend_from_slice(&(length - 21).to_le_bytes())?;
-    heard.extend_from_slice(&reply[25..161])?;
-    heard.extend_from_slice(b"\x05filler\0")?;
-    heard.extend_from_slice(&(length - 175).to_le_bytes())?;
-    heard.push(0)?;
-    push_letters(&mut heard, length - 175)?;
-    heard.push(0)?;
-    heard.extend_from_slice(ACCEPTED)?;
-    Ok(heard)
+    let front: [&[u8]; 8] = [
+        NEGOTIATED,
+        &length.to_le_bytes(),
+        &reply[4..21],
+        &(length - 21).to_le_bytes(),
+        &reply[25..161],
+        b"\x05filler\0",
+        &(length - 175).to_le_bytes(),
+        b"\0",
+    ];
+    with_letters(alloc, &front, length - 175, &[b"\0", ACCEPTED])
 }
 
 // The front of the same whose challenge is one byte longer than the server allows.
 fn heard_past_the_maximum(alloc: Global) -> Result<Vec<u8>, Fail> {
-    let mut heard = Vec::from_slice(alloc, NEGOTIATED)?;
+    let length = 48_000_001u32.to_le_bytes();
     let reply = *CHALLENGE;
-    heard.extend_from_slice(&48_000_001u32.to_le_bytes())?;
-    heard.extend_from_slice(&reply[4..])?;
-    Ok(heard)
+    joined(alloc, &[NEGOTIATED, &length, &reply[4..]])
 }
 
 // The end of a login that heard so many bytes and said all.
