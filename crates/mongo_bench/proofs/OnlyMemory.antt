@@ -1,8 +1,9 @@
 -- What is built and read here is refused for want of memory alone.
-use Rattle.std.proofs.Common.{◌≡◌, ℕ, ℤ, ◌+◌, ◌^◌, ◌<◌, ◌≤◌, List, ◌∷◌, ◌++◌, length, length-append, refl, ap, arith}
+use Rattle.std.proofs.Common.{◌≡◌, ℕ, ℤ, ◌+◌, ◌^◌, ◌<◌, ◌≤◌, Some, List, [], ◌∷◌, ◌++◌, length, length-append, refl, sym, ap, ◌∙◌, arith}
 use Rattle.std.specs.Fmt.{decimal}
 use Rattle.std.proofs.lemmas.Int.{ints}
 use Rattle.std.proofs.lemmas.Fmt.{length-decimal-le}
+use Rattle.std.proofs.lemmas.List.{append-nil}
 use Rattle.mongo_bson.specs.Framed.{IsFramed, element_bytes, enclosed, maximum_length}
 use Rattle.mongo_bson.specs.Document.{spell}
 use Rattle.mongo_bson.specs.Value.{bytes_of, element_of}
@@ -11,10 +12,12 @@ use Rattle.mongo_bson.specs.declared.fault.BsonFault.{BsonFault}
 use Rattle.mongo_bson.specs.declared.fault.BsonFault.TheVariants.{TooLong as TooLongFault, OutOfMemory as NoMemory}
 use Rattle.mongo_bson.specs.declared.raw_value.RawValue.{RawValue}
 use Rattle.mongo_bson.proofs.Enclosed.{length-enclosed, length-element_bytes}
+use Rattle.mongo_wire.specs.Bytes.{first_maximum}
 use Rattle.mongo_wire.specs.Error.{kind_of_fault}
 use Rattle.mongo_wire.specs.Outside.{State}
-use Rattle.mongo_wire.specs.Message.{ReadRefused, IsUnreadable, WriteRefused, Fits}
+use Rattle.mongo_wire.specs.Message.{ReadRefused, IsUnreadable, WhereFrameStands, WriteRefused, Fits}
 use Rattle.mongo_wire.specs.declared.message.Message.{Message}
+use Rattle.mongo_bench.specs.Built.{IsWholeFrame}
 use Rattle.mongo_wire.specs.declared.error.ErrorKind.{ErrorKind}
 use Rattle.mongo_wire.specs.declared.error.ErrorKind.TheVariants.{ReadFault, WriteFault, OutOfMemory, InvalidArgument}
 use Rattle.mongo_wire.specs.declared.fault.ArgumentFault.TheVariants.{IdentifierHasZero, SequenceTooLong, MaximumNegative, TooLong}
@@ -37,11 +40,16 @@ pushed_size old new count value framed small is =
     let element = spell (element_of (decimal count) value) in
     omega (arith, ap length is, length-enclosed (element_bytes old ++ element), length-append (element_bytes old) element, length-element_bytes old framed, size_under_number count value small)
 
--- a source that never fails has a frame that stands in it read, but for want of memory
-pub reading_wants_memory : (kind : ErrorKind) (maximum : ℤ) (old new : State) → IsUnreadable kind → ReadRefused kind maximum old new → old.read_faults ≡ 0 → new.read_faults ≡ 0 → kind ≡ OutOfMemory
-reading_wants_memory ReadFault maximum old new unread refused before after = absurd (omega (arith, refused.0.reads, before, after))
-reading_wants_memory OutOfMemory maximum old new unread refused before after = refl
-reading_wants_memory kind maximum old new unread refused before after = absurd unread
+-- a source that never fails is refused nothing but memory where a frame stands in it
+stands_wants_memory : (kind : ErrorKind) (maximum : ℤ) (old new : State) → IsUnreadable kind → ReadRefused kind maximum old new → old.read_faults ≡ 0 → new.read_faults ≡ 0 → kind ≡ OutOfMemory
+stands_wants_memory ReadFault maximum old new unread refused before after = absurd (omega (arith, refused.0.reads, before, after))
+stands_wants_memory OutOfMemory maximum old new unread refused before after = refl
+stands_wants_memory kind maximum old new unread refused before after = absurd unread
+
+pub reading_wants_memory : (kind : ErrorKind) (frame : List ℕ) (old new : State) → IsWholeFrame frame → old.left ≡ Some frame → WhereFrameStands first_maximum old (λ _ _ _. IsUnreadable kind)
+    → ReadRefused kind first_maximum old new → old.read_faults ≡ 0 → new.read_faults ≡ 0 → kind ≡ OutOfMemory
+reading_wants_memory kind frame old new whole stands again refused before after =
+    stands_wants_memory kind first_maximum old new (again frame [] whole.parts (stands ∙ ap Some (sym (append-nil frame))) whole.is_frame whole.within) refused before after
 
 -- a sink that never fails takes a message that fits, but for want of memory
 pub writing_wants_memory : (kind : ErrorKind) (maximum : ℤ) (m : Message) (old new : State) (before after : ℤ) → Fits maximum m → WriteRefused kind maximum m old new before after → old.write_faults ≡ 0 → new.write_faults ≡ 0 → kind ≡ OutOfMemory

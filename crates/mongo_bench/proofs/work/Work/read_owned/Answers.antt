@@ -1,13 +1,6 @@
-use Rattle.std.proofs.Common.{[], Some, refl, sym, ap, ◌∙◌}
-use Rattle.std.proofs.lemmas.List.{append-nil}
-use Rattle.mongo_wire.specs.Bytes.{first_maximum}
+use Rattle.std.proofs.Common.{refl}
 use Rattle.mongo_bench.proofs.OnlyMemory.{reading_wants_memory}
 use Rattle.mongo_bench.proofs.work.Work.read_owned.Goals as goal
 
 pub want_of_memory-requires : goal.want_of_memory-requires
-want_of_memory-requires c =
-    let frame = c.args.frame.now in
-    let whole = c.requires.whole in
-    let stands = c.new-source.ensures ∙ ap Some (sym (append-nil frame)) in
-    let again = c.in-Err.ensures.again frame [] whole.parts stands whole.is_frame whole.within in
-    reading_wants_memory _ first_maximum _ _ again c.in-Err.ensures.refused refl refl
+want_of_memory-requires c = reading_wants_memory _ c.args.frame.now _ _ c.requires.whole c.new-source.ensures c.in-Err.ensures.again c.in-Err.ensures.refused refl refl
