@@ -9,6 +9,7 @@ import struct
 import subprocess
 import sys
 
+import children
 from decoding import CUT, shown
 
 TOP = os.path.dirname(os.path.realpath(__file__))
@@ -16,7 +17,7 @@ TOP = os.path.dirname(os.path.realpath(__file__))
 
 def built(name):
     """The path of a proved program, which is proved and built first where it isn't current. Ends with 70 where it can't be."""
-    if subprocess.run([os.path.join(TOP, 'build'), name], stdout=sys.stderr).returncode:
+    if subprocess.run([os.path.join(TOP, 'build'), name], stdout=sys.stderr, env=children.environment()).returncode:
         sys.exit(70)
     return os.path.join(TOP, 'crates', name, 'out', name)
 
@@ -134,7 +135,7 @@ def relay(program, first_line, sock, peer_begins, seconds, trace, masked=True):
         return found
     keep = CUT if trace else HEADER
     out, back, peers_turn = Frames(keep), Frames(keep), peer_begins
-    with subprocess.Popen([program], stdin=subprocess.PIPE, stdout=subprocess.PIPE, stderr=subprocess.PIPE, bufsize=0) as running, selectors.DefaultSelector() as ready:
+    with children.start([program], stdin=subprocess.PIPE, stdout=subprocess.PIPE, stderr=subprocess.PIPE, bufsize=0) as running, selectors.DefaultSelector() as ready:
         said, open_streams, sending = bytearray(), 2, True
         try:
             given = Input(running.stdin, ready)
@@ -175,8 +176,7 @@ def relay(program, first_line, sock, peer_begins, seconds, trace, masked=True):
                             sending = sending and send(sock, piece, seconds)
             return running.wait(), said.decode('utf-8', 'replace')
         finally:
-            if running.poll() is None:
-                running.kill()
+            children.forget(running)
 
 
 def from_socket(sock):
