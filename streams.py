@@ -8,6 +8,8 @@ import ssl
 import struct
 import subprocess
 import sys
+import time
+import typing
 
 import children
 from decoding import CUT, shown
@@ -65,8 +67,8 @@ class Frames:
                 self.front, self.came, self.length = bytearray(), 0, 16
 
 
-# How much is kept of a frame that isn't traced: its header.
-HEADER = 16
+# How much is kept of a frame that isn't traced, so that a login is known.
+LOOKED_AT = 4096
 
 
 # ---- a program between its settings and a socket
@@ -76,7 +78,75 @@ AHEAD = 1 << 20
 
 
 class Closed(Exception):
-    """The peer was silent too long, or took nothing for as long."""
+    """A stream was given up, and why."""
+
+
+class Limits(typing.NamedTuple):
+    """How many seconds things may take: a frame of the peer's, and the taking of a piece; its silence before a frame, where that may be
+    longer; and a login, whoever's turn it is."""
+    frame: float
+    login: float
+    idle: float = 0
+
+
+class Clock:
+    """Whose turn it is, and until when. Only a whole frame passes the turn on; a single byte restarts nothing."""
+
+    def __init__(self, limits, peer_begins):
+        self.limits, self.owed, self.begun = limits, 0 if peer_begins else 1, None
+        self.turn = time.monotonic()
+        self.idle = limits.frame
+        self.login = None if peer_begins else self.turn
+
+    def touched(self):
+        """A part of a frame came from the peer."""
+        if self.begun is None:
+            self.begun = time.monotonic()
+
+    def came(self, front):
+        """A whole frame came from the peer, which is answered unless it says that more is to come."""
+        self.begun = None
+        self.turn = time.monotonic()
+        self.idle = self.limits.idle or self.limits.frame
+        if not asks_no_answer(front):
+            self.owed += 1
+        if self.login is None and any(word in front for word in (b'saslStart\0', b'speculativeAuthenticate\0')):
+            self.login = self.turn
+
+    def sent(self, front):
+        """The program wrote a whole frame. Where the limit is one of a server, a login is over that isn't said to go on."""
+        self.owed -= 1
+        self.turn = time.monotonic()
+        if self.limits.idle and (b'conversationId\0' not in front or b'\x08done\0\1' in front):
+            self.login = None
+
+    def deadline(self, program_works):
+        """When the stream is given up, and why: the program works where a part of what came is still due to it, too."""
+        if program_works or self.owed > 0:
+            ends = self.turn + self.limits.login, 'the login took too long'
+        elif self.begun is not None and self.limits.idle:
+            ends = max(self.begun, self.turn) + self.limits.frame, SILENT
+        else:
+            ends = self.turn + self.idle, SILENT
+        return ends if self.login is None else min(ends, (self.login + self.limits.login, 'the login took too long'))
+
+    def left_to_send(self):
+        """How long the peer may take what is sent."""
+        now = time.monotonic()
+        return max(0.001, self.limits.frame if self.login is None else min(self.limits.frame, self.login + self.limits.login - now))
+
+
+def number_at(front, at):
+    """A number of a frame's header."""
+    return struct.unpack_from('<i', front, at)[0]
+
+
+SILENT = 'the peer was silent, or took nothing, too long'
+
+
+def asks_no_answer(front):
+    """Whether a frame is an OP_MSG whose flag moreToCome is set."""
+    return len(front) >= 20 and struct.unpack_from('<i', front, 12)[0] == 2013 and bool(front[16] & 2)
 
 
 class Input:
@@ -120,21 +190,25 @@ def look_for(ready, stream, event, wanted):
         ready.unregister(stream)
 
 
-def relay(program, first_line, sock, peer_begins, seconds, trace, masked=True):
+def relay(program, first_line, sock, peer_begins, limits, trace, masked=True, warn=None):
     """Runs a program whose standard input is one line and then what the socket gives, and whose standard output goes to the socket.
-    Gives its status and what it wrote to standard error. `Closed` where nothing came for so many seconds while it was the peer's turn,
-    or where it took nothing for so many: after a whole frame of the peer, and while a part of what came is still due to the program, it is
-    the program's turn, which may derive a key for as long as that takes. Who begins is told."""
+    Gives its status and what it wrote to standard error. `Closed` where one of the limits is passed: a whole frame of the peer's is due in
+    time, and no more than the limit of a login may pass until a frame is answered, or in a login. Who begins is told."""
     def whole(frames, arrow, piece):
-        """Whether a frame came whole with this piece. Each is said where somebody listens."""
-        found = False
+        """Tells the clock of each frame that came whole with this piece, and says it where somebody listens."""
         for front, length in frames.take(piece):
-            found = True
+            if frames is back:
+                clock.came(front)
+                if warn and len(asked) == 1 and asked[0] != (answers := number_at(front, 8)):
+                    warn(f'the server answers request {answers}, and {asked[0]} was sent; nothing else looks at that')
+            else:
+                clock.sent(front)
+                asked[:] = [number_at(front, 4)]
             if trace:
                 trace(f'{arrow} {shown(front, length, masked)}')
-        return found
-    keep = CUT if trace else HEADER
-    out, back, peers_turn = Frames(keep), Frames(keep), peer_begins
+    asked = []
+    keep = CUT if trace else LOOKED_AT
+    out, back, clock = Frames(keep), Frames(keep), Clock(limits, peer_begins)
     with children.start([program], stdin=subprocess.PIPE, stdout=subprocess.PIPE, stderr=subprocess.PIPE, bufsize=0) as running, selectors.DefaultSelector() as ready:
         said, open_streams, sending = bytearray(), 2, True
         try:
@@ -146,12 +220,13 @@ def relay(program, first_line, sock, peer_begins, seconds, trace, masked=True):
                 has_room = not given.ended and len(given.due) < AHEAD
                 look_for(ready, sock, selectors.EVENT_READ, has_room)
                 waiting = has_room and getattr(sock, 'pending', lambda: 0)() > 0
-                is_silent = peers_turn and not given.due and not given.ended
-                events = [key.fileobj for key, _ in ready.select(0 if waiting else seconds if is_silent else None)]
+                ends, why = clock.deadline(bool(given.due) or given.ended)
+                left = ends - time.monotonic()
+                if left <= 0:
+                    raise Closed(why)
+                events = [key.fileobj for key, _ in ready.select(0 if waiting else left)]
                 if waiting and sock not in events:
                     events.append(sock)
-                if not events:
-                    raise Closed
                 for stream in events:
                     if stream is running.stdin:
                         given.write()
@@ -159,8 +234,9 @@ def relay(program, first_line, sock, peer_begins, seconds, trace, masked=True):
                         piece = from_socket(sock)
                         if piece:
                             given.add(piece)
-                            if whole(back, '<-', piece):
-                                peers_turn = False
+                            whole(back, '<-', piece)
+                            if back.came:
+                                clock.touched()
                         elif piece is not None:
                             given.end()
                     else:
@@ -171,9 +247,8 @@ def relay(program, first_line, sock, peer_begins, seconds, trace, masked=True):
                         elif stream is running.stderr:
                             said += piece
                         else:
-                            if whole(out, '->', piece):
-                                peers_turn = True
-                            sending = sending and send(sock, piece, seconds)
+                            whole(out, '->', piece)
+                            sending = sending and send(sock, piece, clock.left_to_send())
             return running.wait(), said.decode('utf-8', 'replace')
         finally:
             children.forget(running)
@@ -199,6 +274,6 @@ def send(sock, piece, seconds):
         sock.sendall(piece)
         return True
     except socket.timeout:
-        raise Closed from None
+        raise Closed(SILENT) from None
     except OSError:
         return False
