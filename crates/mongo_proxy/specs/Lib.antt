@@ -1,0 +1,5 @@
+pub mod Sides
+pub mod RelayedFrames
+pub mod Relays
+pub mod Stops
+pub mod Script
