@@ -1,11 +1,12 @@
 -- What a relay answers, and what it did.
-use Rattle.std.specs.Prelude.{◌≡◌, ℕ, ℤ, ◌<◌, ◌≤◌, ◌^◌, Bool, true, false, Result, Ok, Err, List, length}
+use Rattle.std.specs.Prelude.{◌≡◌, ℕ, ℤ, ◌+◌, ◌<◌, ◌≤◌, ◌^◌, Bool, true, false, Result, Ok, Err, List, length}
 use Rattle.std.specs.List.{AllByRecursion}
 use Rattle.mongo_wire.specs.Outside.{HasEnded}
 use Rattle.mongo_proxy.specs.RelayedFrames.{RelayedFrame, Passed, Stand, Follow, IsWithin, AllDiffer, beginning, commands, replies, ids_of, taken_of, sent_of}
 use Rattle.mongo_proxy.specs.Sides.{Sides, Carries}
 use Rattle.mongo_proxy.specs.Stops.{Stops}
-use Rattle.mongo_proxy.specs.declared.awaited.Awaited.TheVariants.{Command}
+use Rattle.mongo_proxy.specs.declared.awaited.Awaited.{Awaited}
+use Rattle.mongo_proxy.specs.declared.awaited.Awaited.TheVariants.{Command, Reply}
 use Rattle.mongo_proxy.specs.declared.relayed.Relayed.{Relayed}
 use Rattle.mongo_proxy.specs.declared.relayed.RelayFault.{RelayFault}
 
@@ -22,6 +23,11 @@ pub record HasRelayed (maximum first : ℤ) (old now : Sides) (after : Stand) (r
 pub record Counts (relayed : List RelayedFrame) (done : Relayed) : Type 0 where
   pub commands_are : done.commands ≡ length (commands relayed)
   pub replies_are : done.replies ≡ length (replies relayed)
+
+-- the counts after one frame more
+abbrev pub counted : Relayed → Awaited → Relayed
+counted done Command = record done { commands = done.commands + 1 }
+counted done (Reply asked) = record done { replies = done.replies + 1 }
 
 -- the client ended where a command was awaited; nothing was done but that its end was met
 pub record ClientEnded (between new : Sides) (after : Stand) : Type 0 where
