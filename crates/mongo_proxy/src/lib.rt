@@ -21,8 +21,8 @@
 
 mod awaited;
 mod passing;
-mod relay;
 mod relayed;
+mod relaying;
 
-pub use relay::relay;
 pub use relayed::{RelayFault, Relayed, Side};
+pub use relaying::relay;

@@ -1,6 +1,6 @@
 //! One frame, from one side to the other.
 
-ghost use Rattle.std.specs.Prelude.{◌≡◌, IfOk, IfErr, OnOk};
+ghost use Rattle.std.specs.Prelude.{◌≡◌, ℤ, IfOk, IfErr, OnOk};
 ghost use Rattle.std.specs.Io.KnownBytes.{Appends};
 ghost use Rattle.mongo_wire.specs.Buffer.{UsesMemory};
 ghost use Rattle.mongo_wire.specs.Header.{maximum_of};
@@ -83,14 +83,17 @@ fn send<K: Sink>(
     message: MessageRef<'_>,
     maximum: Option<i32>,
 ) -> Result<(), Error>
-    requires { SectionsFit (maximum_of maximum) message.entry.sections.now }
+    requires { SectionsFit (maximum_of maximum) message.sections.now }
     ensures sent { OnOk result (Appends (K.state sink.old).written (K.state sink.new).written (sections_frame request_id response_to message.entry.flags.0 message.entry.sections.now)) }
     ensures flushed { OnOk result (IsFlushed (K.state sink.new)) }
     ensures writes { OnOk result ((K.state sink.new).write_faults ≡ (K.state sink.old).write_faults) }
     ensures refused { IfErr result (λ e. WriteStops e.kind (K.state sink.old) (K.state sink.new) (sections_frame request_id response_to message.entry.flags.0 message.entry.sections.now)) }
     ensures on { WritesOn (K.state sink.old) (K.state sink.new) }
 {
-    write_sections(sink, request_id, response_to, message.flags, message.sections, maximum)?;
+    match write_sections(sink, request_id, response_to, message.flags, message.sections, maximum) {
+        Ok(()) => {}
+        Err(error) => return Err(error),
+    }
     match sink.flush() {
         Ok(()) => Ok(()),
         Err(fault) => Err(fault.into()),
