@@ -1,3 +1,6 @@
+pub mod Drawn
 pub mod Flushed
-pub mod Sends
+pub mod History
 pub mod OnePassed
+pub mod Sends
+pub mod Turns

@@ -1,5 +1,5 @@
 -- A frame that was read and is passed on.
-use Rattle.std.proofs.Common.{◌≡◌, ℕ, ℤ, pos, ◌≤ℤ◌, ◌+◌, List, [], length, inl, refl, sym, ap, ◌∙◌, subst, arith, length-append}
+use Rattle.std.proofs.Common.{◌≡◌, ℕ, ℤ, pos, ◌≤ℤ◌, ◌≤◌, ◌+◌, List, [], length, inl, refl, sym, ap, ◌∙◌, subst, arith, length-append}
 use Rattle.std.proofs.KnownBytes.{Appends-nil, Consumes-nil}
 use Rattle.std.proofs.lemmas.Int.{ints}
 use Rattle.std.specs.List.{flat_map}
@@ -24,7 +24,7 @@ pub read_fits : (maximum : ℤ) (old new : State) (r : MessageRef) → IsFrameRe
 read_fits maximum old new r h =
     let is = h.ref_of.is_frame in
     let sections = flat_map section_bytes is.sections in
-    let size = omega (arith, ap length is.spelled, length-append sections is.tail, ap length h.ref_of.sections_are) : 20 + length r.sections.now ≤ length h.frame in
+    let size : 20 + length r.sections.now ≤ length h.frame = omega (arith, ap length is.spelled, length-append sections is.tail, ap length h.ref_of.sections_are) in
     record { positive = omega (arith, ints, h.within); within = omega (arith, ints, h.within, size) }
 
 -- what it is passed on as
@@ -118,12 +118,12 @@ pub reply_passed : (maximum : ℤ) (old new s t : State) (r : MessageRef) (asked
     → after ≡ after_reply r.flags.0 asked → ReplyPassed maximum asked (sides old s) (sides new t) after
 reply_passed maximum old new s t r asked to after h on responds sent flushed still wrote is =
     let spelled = ap (λ z. sections_frame r.header.request_id z r.flags.0 r.sections.now) responds in
-    let as = passed_as h.frame r.header.request_id (responds_to asked r.header.response_to) r in
+    let whole = passed_as h.frame r.header.request_id (responds_to asked r.header.response_to) r in
     record {
-      reply = as;
-      is_reply = subst (IsReplyTo asked as) (sym is) (reply_read maximum s t r asked h);
+      reply = whole;
+      is_reply = subst (IsReplyTo asked whole) (sym is) (reply_read maximum s t r asked h);
       within = h.within;
-      client = sent_alone old new as.sent (subst (Appends old.written new.written) spelled sent) flushed still wrote;
+      client = sent_alone old new whole.sent (subst (Appends old.written new.written) spelled sent) flushed still wrote;
       server = taken_alone maximum s t r h on;
     }
 
@@ -131,12 +131,12 @@ pub reply_cut : (maximum : ℤ) (old new s t : State) (r : MessageRef) (asked : 
     → WriteStops kind old new (sections_frame r.header.request_id to r.flags.0 r.sections.now) → WritesOn old new → ReplyCut maximum asked (sides old s) (sides new t) id id kind
 reply_cut maximum old new s t r asked to id kind h on responds stops wrote =
     let spelled = ap (λ z. sections_frame r.header.request_id z r.flags.0 r.sections.now) responds in
-    let as = passed_as h.frame r.header.request_id (responds_to asked r.header.response_to) r in
+    let whole = passed_as h.frame r.header.request_id (responds_to asked r.header.response_to) r in
     record {
-      reply = as;
+      reply = whole;
       after = after_reply r.flags.0 asked;
       is_reply = reply_read maximum s t r asked h;
       taken = taken_whole maximum s t r h on;
-      stops = sent_in_part kind old new as.sent (subst (WriteStops kind old new) spelled stops) wrote;
+      stops = sent_in_part kind old new whole.sent (subst (WriteStops kind old new) spelled stops) wrote;
       undrawn = refl;
     }

@@ -1,12 +1,13 @@
 -- A frame that is sent, or not whole.
-use Rattle.std.proofs.Common.{◌≡◌, ℕ, ℤ, pos, ◌≤ℤ◌, ◌<ℤ◌, ◌+◌, Option, List, length, sym, ap, ◌∙◌, subst, arith}
+use Rattle.std.proofs.Common.{◌≡◌, ℕ, ℤ, pos, ◌≤ℤ◌, ◌<ℤ◌, ◌+◌, Option, List, length, to_z, of_z, FitsSigned, sym, ap, ◌∙◌, subst, arith}
 use Rattle.std.proofs.Math.Seq.{take-length}
 use Rattle.std.proofs.KnownBytes.{Appends-kept}
-use Rattle.std.proofs.lemmas.Int.{ints}
+use Rattle.std.proofs.lemmas.Int.{ints, to_z-of_z}
+use Rattle.std.specs.Int.{w32}
 use Rattle.std.specs.Io.KnownBytes.{Appends, Keeps}
 use Rattle.mongo_wire.specs.Error.{kind_of_sink_error}
 use Rattle.mongo_wire.specs.Outside.{State, AppendsFront, SinkCounts, WriteStops, risen}
-use Rattle.mongo_wire.specs.Sending.{SectionsFit, SectionsRow, SectionsRefused}
+use Rattle.mongo_wire.specs.Sending.{sections_frame, SectionsFit, SectionsRow, SectionsRefused}
 use Rattle.mongo_wire.specs.declared.error.ErrorKind.{ErrorKind}
 use Rattle.mongo_wire.specs.declared.error.ErrorKind.TheVariants.{InvalidArgument, WriteFault, OutOfMemory}
 use Rattle.mongo_wire.specs.declared.fault.ArgumentFault.{ArgumentFault}
@@ -37,3 +38,8 @@ unflushed_stops fault kind old mid new frame is appended still kept counts = sub
     by : (fault : SinkError) → SinkCounts fault mid new → WriteStops (kind_of_sink_error fault) old new frame
     by Failed counts = (counts ∙ ap risen still, front_written old.written mid.written new.written frame appended kept)
     by SinkMemory counts = (counts ∙ still, front_written old.written mid.written new.written frame appended kept)
+
+-- ids that fit are those of the 32 bits that they are handed on as
+pub same_ids : (id to : ℤ) (flags : ℕ) (sections : List ℕ) → FitsSigned w32 id → FitsSigned w32 to → sections_frame (to_z w32 (of_z w32 id)) (to_z w32 (of_z w32 to)) flags sections ≡ sections_frame id to flags sections
+same_ids id to flags sections id_fits to_fits =
+    ap (λ i. sections_frame i (to_z w32 (of_z w32 to)) flags sections) (to_z-of_z w32 id id_fits) ∙ ap (λ t. sections_frame id t flags sections) (to_z-of_z w32 to to_fits)

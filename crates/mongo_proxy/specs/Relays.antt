@@ -11,13 +11,16 @@ use Rattle.mongo_proxy.specs.declared.relayed.Relayed.{Relayed}
 use Rattle.mongo_proxy.specs.declared.relayed.RelayFault.{RelayFault}
 
 -- These frames were passed on, in this order, each within the maximum, and nothing else: what was taken from each side are its frames
--- joined, and what was sent to it what the other side's frames go as, all flushed. The ids of the commands differ.
+-- joined, and what was sent to it what the other side's frames go as, all flushed.
 pub record HasRelayed (maximum first : ℤ) (old now : Sides) (after : Stand) (relayed : List RelayedFrame) : Type 0 where
   pub follow : Follow (beginning first) relayed after
   pub each : AllByRecursion (IsWithin maximum) relayed
   pub client : Carries old.client now.client (taken_of (commands relayed)) (sent_of (replies relayed))
   pub server : Carries old.server now.server (taken_of (replies relayed)) (sent_of (commands relayed))
-  pub apart : length (commands relayed) < 2 ^ 32 → AllDiffer (ids_of (commands relayed))
+
+-- fewer commands than there are ids were sent with ids that differ
+abbrev pub AreApart : List RelayedFrame → Type 0
+AreApart relayed = length (commands relayed) < 2 ^ 32 → AllDiffer (ids_of (commands relayed))
 
 -- the counts are those of the frames that were passed on
 pub record Counts (relayed : List RelayedFrame) (done : Relayed) : Type 0 where
@@ -49,6 +52,7 @@ pub record RelaysWhole (maximum : ℤ) (most : ℕ) (first last : ℤ) (old new 
   pub after : Stand
   pub between : Sides
   pub has_relayed : HasRelayed maximum first old between after relayed
+  pub apart : AreApart relayed
   pub counts : Counts relayed done
   pub ends : EndsWhole done.ended most between new after relayed
   pub next : last ≡ after.id
@@ -59,6 +63,7 @@ pub record RelaysCut (maximum : ℤ) (most : ℕ) (first last : ℤ) (old new : 
   pub after : Stand
   pub between : Sides
   pub has_relayed : HasRelayed maximum first old between after relayed
+  pub apart : AreApart relayed
   pub counts : Counts relayed fault.done
   pub not_ended : fault.done.ended ≡ false
   pub fewer : length relayed < most

@@ -1,16 +1,17 @@
 -- One turn of a proxy: the next frame, from one side to the other.
-use Rattle.std.specs.Prelude.{◌≡◌, ℕ, ℤ, pos, ◌≤ℤ◌, Option, None, Some, Result, Ok, Err, List, [], ◌∷◌, length}
+use Rattle.std.specs.Prelude.{◌≡◌, ℕ, ℤ, pos, ◌≤ℤ◌, Option, None, Some, Result, Ok, Err, false, List, [], ◌∷◌, length}
 use Rattle.std.specs.Io.KnownBytes.{Appends}
 use Rattle.mongo_wire.specs.Bytes.{next_id}
 use Rattle.mongo_wire.specs.Outside.{State, IsFlushed, WritesOn}
 use Rattle.mongo_proxy.specs.RelayedFrames.{RelayedFrame, Passed, Stand, stand, IsCommand, IsNext, IsReplyTo, IsWithin, commands, replies, taken_of, sent_of}
-use Rattle.mongo_proxy.specs.Relays.{ClientEnded}
+use Rattle.mongo_proxy.specs.Relays.{ClientEnded, Counts, HasRelayed}
 use Rattle.mongo_proxy.specs.Sides.{Sides, Carries}
 use Rattle.mongo_proxy.specs.Stops.{Stops}
 use Rattle.mongo_proxy.specs.declared.awaited.Asked.{Asked}
 use Rattle.mongo_proxy.specs.declared.awaited.Awaited.{Awaited}
 use Rattle.mongo_proxy.specs.declared.awaited.Awaited.TheVariants as awaited
 use Rattle.mongo_proxy.specs.declared.passing.Stop.{Stop}
+use Rattle.mongo_proxy.specs.declared.relayed.Relayed.{Relayed}
 
 -- a command was taken from the client, and sent to the server and flushed
 pub record CommandPassed (maximum : ℤ) (between new : Sides) (id last : ℤ) (after : Awaited) : Type 0 where
@@ -50,3 +51,13 @@ abbrev pub TurnEnds : ℤ → Stand → Sides → Sides → ℤ → Result (Opti
 TurnEnds maximum before between new last (Ok None) = ClientEnded between new before × (last ≡ before.id)
 TurnEnds maximum before between new last (Ok (Some after)) = PassesOne maximum before (stand after last) between new
 TurnEnds maximum before between new last (Err stop) = Stops stop.side maximum before between new last stop.error.kind
+
+-- ---- turn after turn
+
+-- so many frames were passed on so far, and counted
+pub record Relaying (maximum first : ℤ) (old now : Sides) (after : Stand) (count : ℕ) (done : Relayed) : Type 0 where
+  pub relayed : List RelayedFrame
+  pub has_relayed : HasRelayed maximum first old now after relayed
+  pub counted : length relayed ≡ count
+  pub counts : Counts relayed done
+  pub not_ended : done.ended ≡ false

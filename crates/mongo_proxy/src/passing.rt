@@ -38,11 +38,12 @@ pub fn pass_command<C: Link, S: Link>(
 {
     match buffer.next(client, maximum) {
         Ok(Some(command)) => {
+            let id = ids.draw();
             let asked = Asked {
                 original_id: command.header.request_id,
-                drawn_id: ids.draw(),
+                drawn_id: id,
             };
-            match send(server, asked.drawn_id, command.header.response_to, command, maximum) {
+            match send(server, id, command.header.response_to, command, maximum) {
                 Ok(()) => Ok(Some(awaited_after_command(command.flags, asked))),
                 Err(error) => Err(Stop { side: Side::Server, error }),
             }
