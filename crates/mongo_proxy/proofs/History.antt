@@ -1,7 +1,6 @@
 -- Frames that were passed on, one after another.
-use Rattle.std.proofs.Common.{◌≡◌, ℕ, ℤ, pos, ◌+◌, ◌<◌, Bool, true, false, Option, None, Some, List, [], ◌∷◌, ◌++◌, length, refl, sym, ap, ◌∙◌, subst, FitsSigned, arith, length-append}
+use Rattle.std.proofs.Common.{◌≡◌, ℕ, ℤ, pos, ◌+◌, ◌<◌, Bool, true, false, Option, None, Some, List, [], ◌∷◌, ◌++◌, length, refl, sym, ap, ◌∙◌, subst, arith, length-append}
 use Rattle.std.proofs.lemmas.List.Concat.{flat_map-append}
-use Rattle.std.specs.Int.{w32}
 use Rattle.std.specs.List.{AllByRecursion}
 use Rattle.mongo_wire.specs.Outside.{State}
 use Rattle.mongo_proxy.specs.RelayedFrames.{RelayedFrame, Passed, command, reply, commands, replies, Stand, stand, beginning, Follow, IsNext, IsNextOf, IsWithin, taken_of, sent_of}
@@ -100,39 +99,39 @@ one_more maximum first old mid new before after count done h p =
 pub few_counted : (maximum first : ℤ) (old mid : Sides) (before : Stand) (count : ℕ) (done : Relayed) → Relaying maximum first old mid before count done → done.commands + done.replies ≡ count
 few_counted maximum first old mid before count done h = omega (arith, h.counts.commands_are, h.counts.replies_are, both_counted h.relayed, h.counted)
 
-pub went_on : (maximum first : ℤ) (old now : Sides) (after : Stand) (count most : ℕ) (done : Relayed) → FitsSigned w32 first → count ≡ most → Relaying maximum first old now after count done → RelaysWhole maximum most first after.id old now done
-went_on maximum first old now after count most done fits all h = record {
+pub went_on : (maximum first : ℤ) (old now : Sides) (after : Stand) (count most : ℕ) (done : Relayed) → count ≡ most → Relaying maximum first old now after count done → RelaysWhole maximum most first after.id old now done
+went_on maximum first old now after count most done all h = record {
   relayed = h.relayed;
   after = after;
   between = now;
   has_relayed = h.has_relayed;
-  apart = ids_apart (beginning first) after h.relayed h.has_relayed.follow fits;
+  apart = ids_apart (beginning first) after h.relayed h.has_relayed.follow;
   counts = h.counts;
   ends = rw h.not_ended (h.counted ∙ all, refl);
   next = refl;
 }
 
-pub has_ended : (maximum first last : ℤ) (old mid new : Sides) (after : Stand) (count most : ℕ) (done : Relayed) → FitsSigned w32 first → count < most → Relaying maximum first old mid after count done
+pub has_ended : (maximum first last : ℤ) (old mid new : Sides) (after : Stand) (count most : ℕ) (done : Relayed) → count < most → Relaying maximum first old mid after count done
     → ClientEnded mid new after × (last ≡ after.id) → RelaysWhole maximum most first last old new (record { commands = done.commands; replies = done.replies; ended = true })
-has_ended maximum first last old mid new after count most done fits fewer h e = record {
+has_ended maximum first last old mid new after count most done fewer h e = record {
   relayed = h.relayed;
   after = after;
   between = mid;
   has_relayed = h.has_relayed;
-  apart = ids_apart (beginning first) after h.relayed h.has_relayed.follow fits;
+  apart = ids_apart (beginning first) after h.relayed h.has_relayed.follow;
   counts = record { commands_are = h.counts.commands_are; replies_are = h.counts.replies_are };
   ends = (omega (arith, h.counted, fewer), e.0);
   next = e.1;
 }
 
-pub was_cut : (maximum first last : ℤ) (old mid new : Sides) (after : Stand) (count most : ℕ) (done : Relayed) (stop : Stop) → FitsSigned w32 first → count < most → Relaying maximum first old mid after count done
+pub was_cut : (maximum first last : ℤ) (old mid new : Sides) (after : Stand) (count most : ℕ) (done : Relayed) (stop : Stop) → count < most → Relaying maximum first old mid after count done
     → Stops stop.side maximum after mid new last stop.error.kind → RelaysCut maximum most first last old new (record { side = stop.side; error = stop.error; done = done })
-was_cut maximum first last old mid new after count most done stop fits fewer h stops = record {
+was_cut maximum first last old mid new after count most done stop fewer h stops = record {
   relayed = h.relayed;
   after = after;
   between = mid;
   has_relayed = h.has_relayed;
-  apart = ids_apart (beginning first) after h.relayed h.has_relayed.follow fits;
+  apart = ids_apart (beginning first) after h.relayed h.has_relayed.follow;
   counts = h.counts;
   not_ended = h.not_ended;
   fewer = omega (arith, h.counted, fewer);

@@ -1,5 +1,8 @@
 -- One turn, by what its half comes to.
-use Rattle.std.proofs.Common.{◌≡◌, ℕ, ℤ, Option, None, Some, Result, Ok, Err, List, [], ◌∷◌, ◌++◌, refl, sym, subst, append-nil}
+use Rattle.std.proofs.Common.{◌≡◌, ℕ, ℤ, Option, None, Some, Result, Ok, Err, List, [], ◌∷◌, ◌++◌, refl, sym, subst, append-nil, inl, inr, arith}
+use Rattle.std.proofs.lemmas.Int.{ints}
+use Rattle.mongo_wire.specs.Buffer.{StaysWithin}
+use Rattle.mongo_wire.specs.declared.frame_buffer.FrameBuffer.{FrameBuffer}
 use Rattle.mongo_proxy.specs.RelayedFrames.{RelayedFrame, command, reply, commands, replies, stand, taken_of, sent_of}
 use Rattle.mongo_proxy.specs.Sides.{Sides, Carries}
 use Rattle.mongo_proxy.specs.Turn.{CommandEnds, CommandPassed, PassesOne, ReplyPassed, TurnEnds}
@@ -38,3 +41,12 @@ turn_of_command maximum between new waits id last result is ends = subst (λ w. 
 pub turn_of_reply : (maximum : ℤ) (between new : Sides) (waits : Awaited) (asked : Asked) (after : Awaited) (id : ℤ) → waits ≡ awaited.Reply asked → ReplyPassed maximum asked between new after
     → PassesOne maximum (stand waits id) (stand after id) between new
 turn_of_reply maximum between new waits asked after id is p = subst (λ w. PassesOne maximum (stand w id) (stand after id) between new) (sym is) (one_reply maximum between new asked id after p)
+
+-- the memory of a buffer that stayed within the maximum twice did so
+pub stays_on : (maximum : ℤ) (start mid last : FrameBuffer) → StaysWithin maximum start mid → StaysWithin maximum mid last → StaysWithin maximum start last
+stays_on maximum start mid last (inl p) (inl q) = inl (omega (arith, p, q))
+stays_on maximum start mid last (inr p) (inl q) = inr (omega (arith, ints, p, q))
+stays_on maximum start mid last p (inr q) = inr q
+
+pub stays_still : (maximum : ℤ) (start : FrameBuffer) → StaysWithin maximum start start
+stays_still maximum start = inl (omega arith)
