@@ -1,6 +1,6 @@
 -- Two sides that behave are relayed to the end.
 use Rattle.std.proofs.Common.{◌≡◌, ℕ, ℤ, pos, ◌+◌, ◌<◌, ◌≤◌, ◌⊎◌, Bool, true, false, Option, None, Some, IfSome, Result, Ok, Err, List, [], ◌∷◌, ◌++◌, length, take, inl, inr, refl, sym, ap, ◌∙◌, subst, append-nil, append_assoc, arith, length-append}
-use Rattle.std.proofs.lemmas.List.{take_at}
+use Rattle.std.proofs.lemmas.List.{take_all, take_at}
 use Rattle.std.specs.Io.KnownBytes.{Appends, Consumes}
 use Rattle.std.specs.List.{AllByRecursion}
 use Rattle.mongo_wire.proofs.FrameRead.{no_refused_frame}
@@ -169,7 +169,7 @@ only_memory Client kind maximum first most relayed script old between new (await
 -- the first frames of a script, as many as were passed on
 first_of : (most : ℕ) (relayed more script : List RelayedFrame) → script ≡ relayed ++ more → (length relayed ≡ most) ⊎ ((more ≡ []) × (length relayed ≤ most)) → take most script ≡ relayed
 first_of most relayed more script joined (inl all) = ap (take most) joined ∙ take_at relayed more most all
-first_of most relayed more script joined (inr (none, few)) = ap (take most) (joined ∙ ap (λ m. relayed ++ m) none ∙ append-nil relayed) ∙ take-all most relayed few
+first_of most relayed more script joined (inr (none, few)) = ap (take most) (joined ∙ ap (λ m. relayed ++ m) none ∙ append-nil relayed) ∙ take_all most relayed few
 
 is_true : (b : Bool) → b ≡ false → b ≡ true → ⊥
 is_true b p q = cc
