@@ -1,7 +1,7 @@
 -- Frames that were passed on are the first of any that stand in the same bytes.
-use Rattle.std.proofs.Common.{◌≡◌, ℕ, ℤ, ◌+◌, ◌≤◌, ◌⊎◌, List, [], ◌∷◌, ◌++◌, length, inl, inr, refl, sym, ap, ◌∙◌, subst, append_assoc, arith, length-append}
+use Rattle.std.proofs.Common.{◌≡◌, ℕ, ℤ, ◌≤◌, ◌⊎◌, List, [], ◌∷◌, ◌++◌, length, inl, inr, refl, sym, ap, ◌∙◌, subst, append_assoc, arith, length-append}
 use Rattle.mongo_wire.proofs.OneFrame.{one_frame, least_frame}
-use Rattle.mongo_proxy.specs.RelayedFrames.{RelayedFrame, Passed, command, reply, commands, replies, Stand, stand, Follow, IsCommand, IsReplyTo, taken_of}
+use Rattle.mongo_proxy.specs.RelayedFrames.{RelayedFrame, Passed, command, reply, commands, replies, Stand, stand, Follow, IsCommand, taken_of}
 use Rattle.mongo_proxy.specs.declared.awaited.Asked.{Asked}
 use Rattle.mongo_proxy.specs.declared.awaited.Awaited.{Awaited}
 use Rattle.mongo_proxy.specs.declared.awaited.Awaited.TheVariants as awaited

@@ -1,5 +1,5 @@
 -- The ids that commands are sent with: fewer than all are no two the same.
-use Rattle.std.proofs.Common.{◌≡◌, ℕ, ℤ, pos, ◌+◌, ◌^◌, ◌%◌, ◌<◌, ◌≤◌, List, [], ◌∷◌, length, refl, sym, ap, ◌∙◌, subst, arith}
+use Rattle.std.proofs.Common.{◌≡◌, ℕ, ℤ, ◌+◌, ◌^◌, ◌%◌, ◌<◌, ◌≤◌, List, [], ◌∷◌, length, refl, sym, ap, ◌∙◌, subst, arith}
 use Rattle.std.proofs.lemmas.Int.{of_z-to_z}
 use Rattle.std.specs.Int.{cast_unsigned, w32}
 use Rattle.std.specs.List.{AllByRecursion}
@@ -19,9 +19,10 @@ bits_next id = of_z-to_z w32 ((cast_unsigned w32 id + 1) % 2 ^ 32) (omega arith)
 -- an id isn't among those that come so many places behind it and later, before it comes again
 not_later : (x id : ℤ) (k : ℕ) (cs : List Passed) → cast_unsigned w32 id ≡ (cast_unsigned w32 x + k) % 2 ^ 32 → 0 < k → k + length cs ≤ 2 ^ 32 → AllByRecursion (λ y. x ≡ y → ⊥) (numbered id cs)
 not_later x id k [] is some few = tt
-not_later x id k (c ∷ cs) is some few =
-    (λ same. omega (arith, is, some, few, ap (cast_unsigned w32) same),
-    not_later x (next_id id) (k + 1) cs (omega (arith, bits_next id, is)) (omega arith) (omega (arith, few)))
+not_later x id k (c ∷ cs) is some few = (
+  λ same. omega (arith, is, some, few, ap (cast_unsigned w32) same),
+  not_later x (next_id id) (k + 1) cs (omega (arith, bits_next id, is)) (omega arith) (omega (arith, few)),
+)
 
 numbered_differ : (id : ℤ) (cs : List Passed) → length cs ≤ 2 ^ 32 → AllDiffer (numbered id cs)
 numbered_differ id [] few = tt

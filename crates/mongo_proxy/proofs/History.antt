@@ -1,10 +1,10 @@
 -- Frames that were passed on, one after another.
-use Rattle.std.proofs.Common.{◌≡◌, ℕ, ℤ, pos, ◌+◌, ◌<◌, Bool, true, false, Option, None, Some, List, [], ◌∷◌, ◌++◌, length, refl, sym, ap, ◌∙◌, subst, arith, length-append}
+use Rattle.std.proofs.Common.{◌≡◌, ℕ, ℤ, ◌+◌, ◌<◌, true, false, List, [], ◌∷◌, ◌++◌, length, refl, sym, ap, ◌∙◌, subst, arith, length-append}
 use Rattle.std.proofs.lemmas.List.Concat.{flat_map-append}
 use Rattle.std.specs.List.{AllByRecursion}
 use Rattle.mongo_wire.specs.Outside.{State}
-use Rattle.mongo_proxy.specs.RelayedFrames.{RelayedFrame, Passed, command, reply, commands, replies, Stand, stand, beginning, Follow, IsNext, IsNextOf, IsWithin, taken_of, sent_of}
-use Rattle.mongo_proxy.specs.Relays.{ClientEnded, Counts, HasRelayed, RelaysCut, RelaysWhole, counted}
+use Rattle.mongo_proxy.specs.RelayedFrames.{RelayedFrame, Passed, command, reply, commands, replies, Stand, beginning, Follow, IsNext, IsNextOf, IsWithin, taken_of, sent_of}
+use Rattle.mongo_proxy.specs.Relays.{ClientEnded, Counts, RelaysCut, RelaysWhole, counted}
 use Rattle.mongo_proxy.specs.Sides.{Sides, Carries}
 use Rattle.mongo_proxy.specs.Stops.{Stops}
 use Rattle.mongo_proxy.specs.Turn.{PassesOne, Relaying}

@@ -1,5 +1,5 @@
 -- A frame is passed on in one way.
-use Rattle.std.proofs.Common.{◌≡◌, ℕ, ℤ, List, ◌++◌, drop, refl, sym, ap, ◌∙◌, subst}
+use Rattle.std.proofs.Common.{◌≡◌, ℕ, ℤ, List, ◌++◌, drop, sym, ap, ◌∙◌, subst}
 use Rattle.std.specs.List.{flat_map}
 use Rattle.mongo_wire.proofs.OneFrame.{one_frame_parts, one_sections, short_tail}
 use Rattle.mongo_wire.specs.Frame.{Frame, IsFrame, section_bytes}
@@ -27,8 +27,8 @@ one_command id c d a b p q e =
     let parts = same_frame_parts c.frame d.frame p.parts q.parts p.is_frame q.is_frame e in
     let ids = p.id_is ∙ sym q.id_is in
     let sent =
-        p.sent_is ∙ ap (λ i. sections_frame i p.parts.response_to p.parts.flags (flat_map section_bytes p.is_frame.sections)) ids ∙ ap (λ z. sections_frame d.id z.response_to z.flags (flat_map section_bytes p.is_frame.sections)) parts
-        ∙ ap (sections_frame d.id q.parts.response_to q.parts.flags) (same_sections c.frame d.frame p.parts q.parts p.is_frame q.is_frame e) ∙ sym q.sent_is in
+    p.sent_is ∙ ap (λ i. sections_frame i p.parts.response_to p.parts.flags (flat_map section_bytes p.is_frame.sections)) ids ∙ ap (λ z. sections_frame d.id z.response_to z.flags (flat_map section_bytes p.is_frame.sections)) parts
+    ∙ ap (sections_frame d.id q.parts.response_to q.parts.flags) (same_sections c.frame d.frame p.parts q.parts p.is_frame q.is_frame e) ∙ sym q.sent_is in
     (same_passed c d e ids sent, p.after_is ∙ ap (λ z. after_command z.flags (record { original_id = z.request_id; drawn_id = id })) parts ∙ sym q.after_is)
 
 pub one_reply : (asked : Asked) (c d : Passed) (a b : Awaited) → IsReplyTo asked c a → IsReplyTo asked d b → c.frame ≡ d.frame → (c ≡ d) × (a ≡ b)
@@ -36,6 +36,6 @@ one_reply asked c d a b p q e =
     let parts = same_frame_parts c.frame d.frame p.parts q.parts p.is_frame q.is_frame e in
     let ids = p.id_is ∙ ap (λ z. z.request_id) parts ∙ sym q.id_is in
     let sent =
-        p.sent_is ∙ ap (λ i. sections_frame i (responds_to asked p.parts.response_to) p.parts.flags (flat_map section_bytes p.is_frame.sections)) ids ∙ ap (λ z. sections_frame d.id (responds_to asked z.response_to) z.flags (flat_map section_bytes p.is_frame.sections)) parts
-        ∙ ap (sections_frame d.id (responds_to asked q.parts.response_to) q.parts.flags) (same_sections c.frame d.frame p.parts q.parts p.is_frame q.is_frame e) ∙ sym q.sent_is in
+    p.sent_is ∙ ap (λ i. sections_frame i (responds_to asked p.parts.response_to) p.parts.flags (flat_map section_bytes p.is_frame.sections)) ids ∙ ap (λ z. sections_frame d.id (responds_to asked z.response_to) z.flags (flat_map section_bytes p.is_frame.sections)) parts
+    ∙ ap (sections_frame d.id (responds_to asked q.parts.response_to) q.parts.flags) (same_sections c.frame d.frame p.parts q.parts p.is_frame q.is_frame e) ∙ sym q.sent_is in
     (same_passed c d e ids sent, p.after_is ∙ ap (λ z. after_reply z.flags asked) parts ∙ sym q.after_is)

@@ -1,5 +1,5 @@
 -- A frame that was read and is passed on.
-use Rattle.std.proofs.Common.{◌≡◌, ℕ, ℤ, pos, ◌≤ℤ◌, ◌≤◌, ◌+◌, List, [], length, inl, refl, sym, ap, ◌∙◌, subst, arith, length-append}
+use Rattle.std.proofs.Common.{◌≡◌, ℕ, ℤ, ◌≤◌, ◌+◌, List, [], length, inl, refl, sym, ap, ◌∙◌, subst, arith, length-append}
 use Rattle.std.proofs.KnownBytes.{Appends-nil, Consumes-nil}
 use Rattle.std.proofs.lemmas.Int.{ints}
 use Rattle.std.specs.List.{flat_map}
@@ -7,12 +7,12 @@ use Rattle.std.specs.Io.KnownBytes.{Appends, Consumes}
 use Rattle.mongo_wire.specs.Bytes.{next_id}
 use Rattle.mongo_wire.specs.Frame.{section_bytes}
 use Rattle.mongo_wire.specs.Outside.{State, IsFlushed, ReadsOn, WritesOn, WriteStops}
-use Rattle.mongo_wire.specs.Ref.{IsFrameRead, IsRefOf}
+use Rattle.mongo_wire.specs.Ref.{IsFrameRead}
 use Rattle.mongo_wire.specs.Sending.{sections_frame, SectionsFit}
 use Rattle.mongo_wire.specs.declared.error.ErrorKind.{ErrorKind}
 use Rattle.mongo_wire.specs.declared.message_ref.MessageRef.{MessageRef}
 use Rattle.mongo_proxy.specs.RelayedFrames.{Passed, IsCommand, IsReplyTo, after_command, after_reply, responds_to}
-use Rattle.mongo_proxy.specs.Sides.{Sides, sides, Lasts, Carries}
+use Rattle.mongo_proxy.specs.Sides.{sides, Carries}
 use Rattle.mongo_proxy.specs.Stops.{CommandCut, ReplyCut, SendStops, Takes}
 use Rattle.mongo_proxy.specs.Turn.{CommandPassed, ReplyPassed}
 use Rattle.mongo_proxy.specs.declared.awaited.Asked.{Asked}

@@ -1,20 +1,20 @@
 -- Two sides that behave are relayed to the end.
-use Rattle.std.proofs.Common.{◌≡◌, ℕ, ℤ, pos, ◌+◌, ◌<◌, ◌≤◌, ◌⊎◌, Bool, true, false, Option, None, Some, IfSome, Result, Ok, Err, List, [], ◌∷◌, ◌++◌, length, take, inl, inr, refl, sym, ap, ◌∙◌, subst, append-nil, append_assoc, arith, length-append}
+use Rattle.std.proofs.Common.{◌≡◌, ℕ, ℤ, ◌<◌, ◌≤◌, ◌⊎◌, Bool, true, false, Option, None, Some, IfSome, Result, Ok, Err, List, [], ◌∷◌, ◌++◌, length, take, inl, inr, refl, sym, ap, ◌∙◌, subst, append-nil, append_assoc, arith, length-append}
 use Rattle.std.proofs.lemmas.List.{take_all, take_at}
 use Rattle.std.specs.Io.KnownBytes.{Appends, Consumes}
 use Rattle.std.specs.List.{AllByRecursion}
 use Rattle.mongo_wire.proofs.FrameRead.{no_refused_frame}
 use Rattle.mongo_wire.proofs.OneFrame.{least_frame}
 use Rattle.mongo_wire.specs.Message.{IsUnreadable, ReadRefused}
-use Rattle.mongo_wire.specs.Outside.{State, FailsToRead, HasMore, Rose, Unfailed, WriteStops, risen}
+use Rattle.mongo_wire.specs.Outside.{State, FailsToRead, HasMore, Unfailed, WriteStops, risen}
 use Rattle.mongo_wire.specs.Rows.{FrameRow, TakesRow}
 use Rattle.mongo_wire.specs.declared.error.ErrorKind.{ErrorKind}
 use Rattle.mongo_wire.specs.declared.error.ErrorKind.TheVariants.{ReadFault, WriteFault, EndOfInput, OutOfMemory, InvalidArgument, InvalidResponse}
-use Rattle.mongo_proxy.specs.RelayedFrames.{RelayedFrame, Passed, command, reply, commands, replies, passed, Stand, stand, beginning, Follow, IsWithin, taken_of, sent_of}
-use Rattle.mongo_proxy.specs.Relays.{ClientEnded, Counts, EndsWhole, HasRelayed, Relays, RelaysCut, RelaysWhole}
+use Rattle.mongo_proxy.specs.RelayedFrames.{RelayedFrame, command, reply, commands, replies, Stand, stand, Follow, IsWithin, taken_of, sent_of}
+use Rattle.mongo_proxy.specs.Relays.{Counts, EndsWhole, HasRelayed, Relays, RelaysWhole}
 use Rattle.mongo_proxy.specs.Script.{Completes, IsScript, NothingFailed, RelaysScript}
-use Rattle.mongo_proxy.specs.Sides.{Sides, Carries, Lasts}
-use Rattle.mongo_proxy.specs.Stops.{NoCommand, NoReply, Stops, StopsOn}
+use Rattle.mongo_proxy.specs.Sides.{Sides, Lasts}
+use Rattle.mongo_proxy.specs.Stops.{NoCommand, NoReply, StopsOn}
 use Rattle.mongo_proxy.specs.declared.awaited.Asked.{Asked}
 use Rattle.mongo_proxy.specs.declared.awaited.Awaited.{Awaited}
 use Rattle.mongo_proxy.specs.declared.awaited.Awaited.TheVariants as awaited
@@ -22,7 +22,7 @@ use Rattle.mongo_proxy.specs.declared.relayed.Relayed.{Relayed}
 use Rattle.mongo_proxy.specs.declared.relayed.RelayFault.{RelayFault}
 use Rattle.mongo_proxy.specs.declared.relayed.Side.{Side}
 use Rattle.mongo_proxy.specs.declared.relayed.Side.TheVariants.{Client, Server}
-use Rattle.mongo_proxy.proofs.Continues.{Continues, EndsBefore, continues}
+use Rattle.mongo_proxy.proofs.Continues.{EndsBefore, continues}
 
 -- ---- what is left of a script
 

@@ -1,9 +1,9 @@
 -- One turn, by what its half comes to.
-use Rattle.std.proofs.Common.{◌≡◌, ℕ, ℤ, Option, None, Some, Result, Ok, Err, List, [], ◌∷◌, ◌++◌, refl, sym, subst, append-nil, inl, inr, arith}
+use Rattle.std.proofs.Common.{◌≡◌, ℤ, Option, None, Some, Result, Ok, Err, [], refl, sym, subst, append-nil, inl, inr, arith}
 use Rattle.std.proofs.lemmas.Int.{ints}
 use Rattle.mongo_wire.specs.Buffer.{StaysWithin}
 use Rattle.mongo_wire.specs.declared.frame_buffer.FrameBuffer.{FrameBuffer}
-use Rattle.mongo_proxy.specs.RelayedFrames.{RelayedFrame, command, reply, commands, replies, stand, taken_of, sent_of}
+use Rattle.mongo_proxy.specs.RelayedFrames.{command, reply, stand}
 use Rattle.mongo_proxy.specs.Sides.{Sides, Carries}
 use Rattle.mongo_proxy.specs.Turn.{CommandEnds, CommandPassed, PassesOne, ReplyPassed, TurnEnds}
 use Rattle.mongo_proxy.specs.declared.awaited.Asked.{Asked}

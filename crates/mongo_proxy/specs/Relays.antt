@@ -1,8 +1,8 @@
 -- What a relay answers, and what it did.
-use Rattle.std.specs.Prelude.{◌≡◌, ℕ, ℤ, ◌+◌, ◌<◌, ◌≤◌, ◌^◌, Bool, true, false, Result, Ok, Err, List, length}
+use Rattle.std.specs.Prelude.{◌≡◌, ℕ, ℤ, ◌+◌, ◌<◌, ◌^◌, Bool, true, false, Result, Ok, Err, List, length}
 use Rattle.std.specs.List.{AllByRecursion}
 use Rattle.mongo_wire.specs.Outside.{HasEnded}
-use Rattle.mongo_proxy.specs.RelayedFrames.{RelayedFrame, Passed, Stand, Follow, IsWithin, AllDiffer, beginning, commands, replies, ids_of, taken_of, sent_of}
+use Rattle.mongo_proxy.specs.RelayedFrames.{RelayedFrame, Stand, Follow, IsWithin, AllDiffer, beginning, commands, replies, ids_of, taken_of, sent_of}
 use Rattle.mongo_proxy.specs.Sides.{Sides, Carries}
 use Rattle.mongo_proxy.specs.Stops.{Stops}
 use Rattle.mongo_proxy.specs.declared.awaited.Awaited.{Awaited}

@@ -1,8 +1,6 @@
 -- One turn of a proxy: the next frame, from one side to the other.
 use Rattle.std.specs.Prelude.{◌≡◌, ℕ, ℤ, pos, ◌≤ℤ◌, Option, None, Some, Result, Ok, Err, false, List, [], ◌∷◌, length}
-use Rattle.std.specs.Io.KnownBytes.{Appends}
 use Rattle.mongo_wire.specs.Bytes.{next_id}
-use Rattle.mongo_wire.specs.Outside.{State, IsFlushed, WritesOn}
 use Rattle.mongo_proxy.specs.RelayedFrames.{RelayedFrame, Passed, Stand, stand, IsCommand, IsNext, IsReplyTo, IsWithin, commands, replies, taken_of, sent_of}
 use Rattle.mongo_proxy.specs.Relays.{ClientEnded, Counts, HasRelayed}
 use Rattle.mongo_proxy.specs.Sides.{Sides, Carries}

@@ -1,19 +1,21 @@
 //! One frame, from one side to the other.
 
-ghost use Rattle.std.specs.Prelude.{◌≡◌, ℤ, IfOk, IfErr, OnOk};
+ghost use Rattle.std.specs.Prelude.{◌≡◌, ℤ, IfErr, OnOk};
 ghost use Rattle.std.specs.Io.KnownBytes.{Appends};
 ghost use Rattle.mongo_wire.specs.Buffer.{UsesMemory};
 ghost use Rattle.mongo_wire.specs.Header.{maximum_of};
 ghost use Rattle.mongo_wire.specs.Outside.{IsFlushed, WritesOn, WriteStops};
 ghost use Rattle.mongo_wire.specs.Sending.{sections_frame, SectionsFit};
-ghost use Rattle.mongo_proxy.specs.RelayedFrames.{responds_to, after_command, after_reply};
+ghost use Rattle.mongo_proxy.specs.RelayedFrames.{after_command, after_reply};
 ghost use Rattle.mongo_proxy.specs.Sides.{sides};
 ghost use Rattle.mongo_proxy.specs.Turn.{CommandEnds, ReplyEnds};
 
 use crate::Side;
 use crate::awaited::{Asked, Awaited};
 use bitflags::Flags;
-use mongo_wire::{Error, FrameBuffer, MessageFlags, MessageRef, RequestIds, Link, Sink, write_sections};
+use mongo_wire::{
+    Error, FrameBuffer, Link, MessageFlags, MessageRef, RequestIds, Sink, write_sections,
+};
 
 /// Why a frame wasn't passed on.
 #[derive(Debug, Drop)]
@@ -45,11 +47,17 @@ pub fn pass_command<C: Link, S: Link>(
             };
             match send(server, id, command.header.response_to, command, maximum) {
                 Ok(()) => Ok(Some(awaited_after_command(command.flags, asked))),
-                Err(error) => Err(Stop { side: Side::Server, error }),
+                Err(error) => Err(Stop {
+                    side: Side::Server,
+                    error,
+                }),
             }
         }
         Ok(None) => Ok(None),
-        Err(fault) => Err(Stop { side: Side::Client, error: fault.into() }),
+        Err(fault) => Err(Stop {
+            side: Side::Client,
+            error: fault.into(),
+        }),
     }
 }
 
@@ -69,10 +77,16 @@ pub fn pass_reply<C: Link, S: Link>(
             let to = asked.responds_to(reply.header.response_to);
             match send(client, reply.header.request_id, to, reply, maximum) {
                 Ok(()) => Ok(awaited_after_reply(reply.flags, asked)),
-                Err(error) => Err(Stop { side: Side::Client, error }),
+                Err(error) => Err(Stop {
+                    side: Side::Client,
+                    error,
+                }),
             }
         }
-        Err(fault) => Err(Stop { side: Side::Server, error: fault.into() }),
+        Err(fault) => Err(Stop {
+            side: Side::Server,
+            error: fault.into(),
+        }),
     }
 }
 
@@ -91,7 +105,14 @@ fn send<K: Sink>(
     ensures refused { IfErr result (λ e. WriteStops e.kind (K.state sink.old) (K.state sink.new) (sections_frame request_id response_to message.entry.flags.0 message.entry.sections.now)) }
     ensures on { WritesOn (K.state sink.old) (K.state sink.new) }
 {
-    match write_sections(sink, request_id, response_to, message.flags, message.sections, maximum) {
+    match write_sections(
+        sink,
+        request_id,
+        response_to,
+        message.flags,
+        message.sections,
+        maximum,
+    ) {
         Ok(()) => {}
         Err(error) => return Err(error),
     }

@@ -79,8 +79,16 @@ fn relay_with<C: Link, S: Link>(
                 done = counted(done, awaited);
                 awaited = next;
             }
-            Ok(None) => return Ok(Relayed { commands: done.commands, replies: done.replies, ended: true }),
-            Err(stop) => return Err(RelayFault { side: stop.side, error: stop.error, done }),
+            Ok(None) => return Ok(Relayed {
+                commands: done.commands,
+                replies: done.replies,
+                ended: true,
+            }),
+            Err(stop) => return Err(RelayFault {
+                side: stop.side,
+                error: stop.error,
+                done,
+            }),
         }
     }
     Ok(done)

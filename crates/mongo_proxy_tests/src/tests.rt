@@ -5,9 +5,7 @@ mod rows;
 use frames::piece;
 use mongo_bson::{BsonFault, Bytes};
 use mongo_proxy::{RelayFault, Relayed, Side, relay};
-use mongo_wire::{
-    ArgumentFault, Error, ErrorKind, Link, MemoryLink, RequestIds, ResponseFault,
-};
+use mongo_wire::{ArgumentFault, Error, ErrorKind, Link, MemoryLink, RequestIds, ResponseFault};
 use rows::{COUNTED, PASSED, STOPPED};
 use std::alloc::Global;
 use std::test::Fail;
@@ -48,8 +46,17 @@ fn end_of(relayed: &Result<Relayed, RelayFault>) -> End {
             (None, word, done.commands, done.replies)
         }
         Err(fault) => {
-            let word = if fault.done.ended { "ended by a fault" } else { cause(&fault.error) };
-            (Some(fault.side), word, fault.done.commands, fault.done.replies)
+            let word = if fault.done.ended {
+                "ended by a fault"
+            } else {
+                cause(&fault.error)
+            };
+            (
+                Some(fault.side),
+                word,
+                fault.done.commands,
+                fault.done.replies,
+            )
         }
     }
 }
@@ -115,7 +122,13 @@ fn outcome_of(alloc: Global, row: Row) -> Result<Outcome, BsonFault> {
     let server = MemoryLink::new(alloc, joined(alloc, row.server)?);
     let to_server = joined(alloc, row.to_server)?;
     let to_client = joined(alloc, row.to_client)?;
-    Ok(relay_in_memory(alloc, client, server, row.most, (to_server.as_bytes(), to_client.as_bytes())))
+    Ok(relay_in_memory(
+        alloc,
+        client,
+        server,
+        row.most,
+        (to_server.as_bytes(), to_client.as_bytes()),
+    ))
 }
 
 // Fails where another comes of a row's two sides.

@@ -16,19 +16,97 @@ use std::test::Fail;
 type Fault = (Side, usize, End, i32, (usize, usize));
 
 const FAULTS: [Fault; 15] = [
-    (Side::Client, 0, (Some(Side::Client), "ReadFault", 0, 0), 100, (0, 0)),
-    (Side::Client, 1, (Some(Side::Client), "ReadFault", 0, 0), 100, (0, 0)),
-    (Side::Server, 0, (Some(Side::Server), "WriteFault", 0, 0), 101, (0, 0)),
-    (Side::Server, 1, (Some(Side::Server), "WriteFault", 0, 0), 101, (16, 0)),
-    (Side::Server, 2, (Some(Side::Server), "WriteFault", 0, 0), 101, (20, 0)),
-    (Side::Server, 3, (Some(Side::Server), "WriteFault", 0, 0), 101, (51, 0)),
-    (Side::Server, 4, (Some(Side::Server), "ReadFault", 1, 0), 101, (51, 0)),
-    (Side::Server, 5, (Some(Side::Server), "ReadFault", 1, 0), 101, (51, 0)),
-    (Side::Client, 2, (Some(Side::Client), "WriteFault", 1, 0), 101, (51, 0)),
-    (Side::Client, 3, (Some(Side::Client), "WriteFault", 1, 0), 101, (51, 16)),
-    (Side::Client, 4, (Some(Side::Client), "WriteFault", 1, 0), 101, (51, 20)),
-    (Side::Client, 5, (Some(Side::Client), "WriteFault", 1, 0), 101, (51, 38)),
-    (Side::Client, 6, (Some(Side::Client), "ReadFault", 1, 1), 101, (51, 38)),
+    (
+        Side::Client,
+        0,
+        (Some(Side::Client), "ReadFault", 0, 0),
+        100,
+        (0, 0),
+    ),
+    (
+        Side::Client,
+        1,
+        (Some(Side::Client), "ReadFault", 0, 0),
+        100,
+        (0, 0),
+    ),
+    (
+        Side::Server,
+        0,
+        (Some(Side::Server), "WriteFault", 0, 0),
+        101,
+        (0, 0),
+    ),
+    (
+        Side::Server,
+        1,
+        (Some(Side::Server), "WriteFault", 0, 0),
+        101,
+        (16, 0),
+    ),
+    (
+        Side::Server,
+        2,
+        (Some(Side::Server), "WriteFault", 0, 0),
+        101,
+        (20, 0),
+    ),
+    (
+        Side::Server,
+        3,
+        (Some(Side::Server), "WriteFault", 0, 0),
+        101,
+        (51, 0),
+    ),
+    (
+        Side::Server,
+        4,
+        (Some(Side::Server), "ReadFault", 1, 0),
+        101,
+        (51, 0),
+    ),
+    (
+        Side::Server,
+        5,
+        (Some(Side::Server), "ReadFault", 1, 0),
+        101,
+        (51, 0),
+    ),
+    (
+        Side::Client,
+        2,
+        (Some(Side::Client), "WriteFault", 1, 0),
+        101,
+        (51, 0),
+    ),
+    (
+        Side::Client,
+        3,
+        (Some(Side::Client), "WriteFault", 1, 0),
+        101,
+        (51, 16),
+    ),
+    (
+        Side::Client,
+        4,
+        (Some(Side::Client), "WriteFault", 1, 0),
+        101,
+        (51, 20),
+    ),
+    (
+        Side::Client,
+        5,
+        (Some(Side::Client), "WriteFault", 1, 0),
+        101,
+        (51, 38),
+    ),
+    (
+        Side::Client,
+        6,
+        (Some(Side::Client), "ReadFault", 1, 1),
+        101,
+        (51, 38),
+    ),
     (Side::Client, 7, (None, "ended", 1, 1), 101, (51, 38)),
     (Side::Server, 6, (None, "ended", 1, 1), 101, (51, 38)),
 ];
@@ -64,16 +142,16 @@ fn relay_one(alloc: Global, mut client: FailingLink, mut server: FailingLink) ->
     let (end, next_id) = relay_from_100(alloc, &mut client, &mut server, None, 100);
     let are_fronts = piece("ping-as-100").starts_with(server.written())
         && piece("ok-to-9").starts_with(client.written());
-    (end, next_id, (server.written().len(), client.written().len()), are_fronts)
+    (
+        end,
+        next_id,
+        (server.written().len(), client.written().len()),
+        are_fronts,
+    )
 }
 
 // The same over links that move at most so many bytes, where one of them fails at this call.
-fn relay_failing(
-    alloc: Global,
-    fails: Side,
-    call: usize,
-    most: usize,
-) -> Result<Found, BsonFault>
+fn relay_failing(alloc: Global, fails: Side, call: usize, most: usize) -> Result<Found, BsonFault>
     requires { 0 < most }
 {
     let client_failing = failing_at(alloc, Side::Client, fails, call)?;
@@ -87,7 +165,10 @@ fn relay_failing(
 fn a_fault_at_each_call_names_its_side(rt: HostRuntime) -> Result<(), Fail> {
     for (fails, call, end, next_id, sent) in FAULTS {
         let found = relay_failing(rt.alloc(), fails, call, 4096)?;
-        assert!(rt; found == (end, next_id, sent, true), "at {call} of {fails:?}: {found:?}");
+        assert!(rt;
+            found == (end, next_id, sent, true),
+            "at {call} of {fails:?}: {found:?}"
+        );
     }
     Ok(())
 }
@@ -96,7 +177,10 @@ fn a_fault_at_each_call_names_its_side(rt: HostRuntime) -> Result<(), Fail> {
 fn a_few_bytes_at_a_time(rt: HostRuntime) -> Result<(), Fail> {
     for most in 1..20 {
         let found = relay_failing(rt.alloc(), Side::Client, 1000, most)?;
-        assert!(rt; found == ((None, "ended", 1, 1), 101, (51, 38), true), "by {most}: {found:?}");
+        assert!(rt;
+            found == ((None, "ended", 1, 1), 101, (51, 38), true),
+            "by {most}: {found:?}"
+        );
     }
     Ok(())
 }

@@ -31,11 +31,11 @@ returns-in-Ok-clause-ends g c =
     let id : FitsSigned w32 c.draw-id.result = search rules in
     let to : FitsSigned w32 r.header.response_to = search rules in
     let sent =
-        subst (λ d. Appends s.written t.written (sections_frame d r.header.response_to r.flags.0 r.sections.now)) c.draw-id.ensures.drawn (subst (Appends s.written t.written) (same_ids c.draw-id.result r.header.response_to r.flags.0 r.sections.now id to) c.in-Ok.ensures.sent) in
+    subst (λ d. Appends s.written t.written (sections_frame d r.header.response_to r.flags.0 r.sections.now)) c.draw-id.ensures.drawn (subst (Appends s.written t.written) (same_ids c.draw-id.result r.header.response_to r.flags.0 r.sections.now id to) c.in-Ok.ensures.sent) in
     let original : FitsSigned w32 r.header.request_id = search rules in
     let awaits =
-        c.awaited_after_command.ensures ∙ ap (λ i. after_command r.flags.0 (record { original_id = i; drawn_id = to_z w32 (of_z w32 c.draw-id.result) })) (to_z-of_z w32 r.header.request_id original)
-        ∙ ap (λ d. after_command r.flags.0 (record { original_id = r.header.request_id; drawn_id = d })) (to_z-of_z w32 c.draw-id.result id ∙ c.draw-id.ensures.drawn) in
+    c.awaited_after_command.ensures ∙ ap (λ i. after_command r.flags.0 (record { original_id = i; drawn_id = to_z w32 (of_z w32 c.draw-id.result) })) (to_z-of_z w32 r.header.request_id original)
+    ∙ ap (λ d. after_command r.flags.0 (record { original_id = r.header.request_id; drawn_id = d })) (to_z-of_z w32 c.draw-id.result id ∙ c.draw-id.ensures.drawn) in
     command_passed maximum old new s t r c.args.ids.now c.draw-id.new.self c.awaited_after_command.result read c.in-Ok-Some.ensures.on sent c.in-Ok.ensures.flushed c.in-Ok.ensures.writes c.in-Ok.ensures.on awaits c.draw-id.ensures.next
 
 pub returns-in-Err-send-clause-ends : goal.returns-in-Err-send-clause-ends
@@ -50,5 +50,5 @@ returns-in-Err-send-clause-ends g c =
     let id : FitsSigned w32 c.draw-id.result = search rules in
     let to : FitsSigned w32 r.header.response_to = search rules in
     let stops =
-        subst (λ d. WriteStops c.in-Err-send.error.kind s t (sections_frame d r.header.response_to r.flags.0 r.sections.now)) c.draw-id.ensures.drawn (subst (WriteStops c.in-Err-send.error.kind s t) (same_ids c.draw-id.result r.header.response_to r.flags.0 r.sections.now id to) c.in-Err-send.ensures.refused) in
+    subst (λ d. WriteStops c.in-Err-send.error.kind s t (sections_frame d r.header.response_to r.flags.0 r.sections.now)) c.draw-id.ensures.drawn (subst (WriteStops c.in-Err-send.error.kind s t) (same_ids c.draw-id.result r.header.response_to r.flags.0 r.sections.now id to) c.in-Err-send.ensures.refused) in
     command_cut maximum old new s t r c.args.ids.now c.draw-id.new.self c.in-Err-send.error.kind read c.in-Ok-Some.ensures.on stops c.in-Err-send.ensures.on c.draw-id.ensures.next

@@ -1,8 +1,8 @@
-use Rattle.std.proofs.Common.{subst, ap, ◌∙◌, ◌≡◌, Ok, Err, None, Some, arith}
+use Rattle.std.proofs.Common.{subst, ap, ◌∙◌, ◌≡◌, Ok, None, Some, arith}
 use Rattle.mongo_wire.specs.Header.{maximum_of}
 use Rattle.mongo_proxy.specs.RelayedFrames.{stand}
 use Rattle.mongo_proxy.specs.Sides.{sides}
-use Rattle.mongo_proxy.specs.Turn.{Relaying, TurnEnds}
+use Rattle.mongo_proxy.specs.Turn.{TurnEnds}
 use Rattle.mongo_proxy.proofs.History.{begun, one_more, few_counted, went_on, has_ended, was_cut}
 use Rattle.mongo_proxy.proofs.Turns.{stays_on, stays_still}
 use Rattle.mongo_proxy.proofs.relaying.relay_with.Goals as goal
@@ -47,10 +47,11 @@ relaying-preserved g c =
     let before = stand c.relaying.awaited c.relaying.ids in
     let after = stand c.in-Ok-Some.next c.pass_next.new.ids in
     let result : c.pass_next.result ≡ Ok (Some c.in-Ok-Some.next) = c.in-Ok-Some.is ∙ ap Ok c.in-Ok-Some.field-0-is in
-    let more = one_more maximum c.args.ids.now old mid new before after c.relaying._turn c.relaying.done c.relaying.invariant.0 (subst (TurnEnds maximum before mid new c.pass_next.new.ids) result c.pass_next.ensures.ends) in
-    (rw c.counted-done.ensures more,
-    stays_on maximum c.args.buffers.now.commands c.relaying.buffers.commands c.pass_next.new.buffers.commands c.relaying.invariant.1 c.pass_next.ensures.command_memory,
-    stays_on maximum c.args.buffers.now.replies c.relaying.buffers.replies c.pass_next.new.buffers.replies c.relaying.invariant.2 c.pass_next.ensures.reply_memory)
+    let more = one_more maximum c.args.ids.now old mid new before after c.relaying._turn c.relaying.done c.relaying.invariant.0 (subst (TurnEnds maximum before mid new c.pass_next.new.ids) result c.pass_next.ensures.ends) in (
+      rw c.counted-done.ensures more,
+      stays_on maximum c.args.buffers.now.commands c.relaying.buffers.commands c.pass_next.new.buffers.commands c.relaying.invariant.1 c.pass_next.ensures.command_memory,
+      stays_on maximum c.args.buffers.now.replies c.relaying.buffers.replies c.pass_next.new.buffers.replies c.relaying.invariant.2 c.pass_next.ensures.reply_memory,
+    )
 
 pub returns-clause-relays : goal.returns-clause-relays
 returns-clause-relays g c =
