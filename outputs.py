@@ -65,13 +65,17 @@ class Lines:
             if self.waiting and self.size + len(line) > HELD:
                 self.left_out += 1
                 return
-            if self.left_out:
-                self.push(encoded(f'.. {self.left_out} lines are left out here, which nobody took\n', sys.stderr))
-                self.left_out = 0
+            self.tell_left_out()
             self.push(line)
             if not self.writes:
                 threading.Thread(target=self.write_on, daemon=True).start()
                 self.writes = True
+
+    def tell_left_out(self):
+        """A line in the place of those that are left out, if any are."""
+        if self.left_out:
+            self.push(encoded(f'.. {self.left_out} lines are left out here, which nobody took\n', sys.stderr))
+            self.left_out = 0
 
     def push(self, line):
         self.waiting.append(line)
@@ -100,7 +104,9 @@ class Lines:
     def drain(self):
         """Waits until everything is written, as long as some of it is taken now and then."""
         with self.changed:
-            while self.waiting:
+            while self.waiting or self.left_out:
+                if not self.waiting:
+                    self.tell_left_out()
                 before = self.steps
                 if not self.changed.wait_for(lambda: self.steps != before or not self.waiting, PATIENCE):
                     return
