@@ -16,6 +16,9 @@ LIBRARY = ctypes.CDLL(None, use_errno=True) if sys.platform == 'linux' else None
 
 RUNNING, CHANGING = set(), threading.Lock()
 
+# One is started at a time, so that no more than one has the descriptors open that it needs for that.
+STARTING = threading.Lock()
+
 
 def environment():
     """The environment without the passwords."""
@@ -38,7 +41,8 @@ def start(words, **more):
             LIBRARY.prctl(PR_SET_PDEATHSIG, signal.SIGKILL, 0, 0, 0)
             if os.getppid() != parent:
                 os._exit(70)
-    running = subprocess.Popen(words, env=environment(), preexec_fn=before, **more)
+    with STARTING:
+        running = subprocess.Popen(words, env=environment(), preexec_fn=before, **more)
     with CHANGING:
         RUNNING.add(running)
     return running

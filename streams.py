@@ -19,7 +19,7 @@ TOP = os.path.dirname(os.path.realpath(__file__))
 
 def built(name):
     """The path of a proved program, which is proved and built first where it isn't current. Ends with 70 where it can't be."""
-    if subprocess.run([os.path.join(TOP, 'build'), name], stdout=sys.stderr, env=children.environment()).returncode:
+    if subprocess.run([os.path.join(TOP, 'build'), name], stdout=2, env=children.environment()).returncode:
         sys.exit(70)
     return os.path.join(TOP, 'crates', name, 'out', name)
 
@@ -256,24 +256,35 @@ def relay(program, first_line, sock, peer_begins, limits, trace, masked=True, wa
 
 def from_socket(sock):
     """What the socket has: nothing where it has ended. None where there is nothing yet: what makes a TLS stream ready may be a record of
-    TLS itself, with nothing for the program in it."""
+    TLS itself, with nothing for the program in it. `Closed` where TLS failed: what it carries has no end then."""
     sock.setblocking(False)
     try:
         return sock.recv(65536)
     except (BlockingIOError, InterruptedError, ssl.SSLWantReadError, ssl.SSLWantWriteError):
         return None
+    except ssl.SSLError as fault:
+        raise Closed(tls_fault(fault)) from None
     except OSError:
         return b''
 
 
+def tls_fault(fault):
+    """A fault of TLS as a text."""
+    return f'TLS failed: {(fault.reason or str(fault)).replace("_", " ").lower()}'
+
+
 def send(sock, piece, seconds):
     """Sends a whole piece, and tells whether the peer is still there: one that has gone gets no more, and the program is told by the end
-    of its stream. `Closed` where the piece wasn't taken in time, since nothing may follow a part of it."""
+    of its stream. `Closed` where the piece wasn't taken in time, since nothing may follow a part of it, and where TLS failed."""
     sock.settimeout(seconds)
     try:
         sock.sendall(piece)
         return True
     except socket.timeout:
         raise Closed(SILENT) from None
+    except (ssl.SSLEOFError, ssl.SSLZeroReturnError):
+        return False
+    except ssl.SSLError as fault:
+        raise Closed(tls_fault(fault)) from None
     except OSError:
         return False
