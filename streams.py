@@ -263,7 +263,7 @@ def from_socket(sock):
     except (BlockingIOError, InterruptedError, ssl.SSLWantReadError, ssl.SSLWantWriteError):
         return None
     except ssl.SSLError as fault:
-        raise Closed(tls_fault(fault)) from None
+        raise Closed(tls_fault(fault)) from fault
     except OSError:
         return b''
 
