@@ -1,0 +1,163 @@
+-- The inserts' theorem: what an insert of many documents writes, takes and answers, and why it is refused.
+use Rattle.std.specs.Prelude.{◌≡◌, ◌⊎◌, ℕ, ℤ, pos, ◌<◌, ◌≤◌, ◌<ℤ◌, ◌≤ℤ◌, Option, None, Some, Result, List, [], ◌∷◌, ◌++◌, length, map, All, IfOk, IfErr, OnOk}
+use Rattle.mongo_bson.specs.Framed.{maximum_length}
+use Rattle.mongo_bson.specs.declared.fault.BsonFault.TheVariants.{TooLong as DocumentLimit}
+use Rattle.mongo_wire.specs.declared.error.ErrorKind.{ErrorKind}
+use Rattle.mongo_wire.specs.declared.error.ErrorKind.TheVariants.{InvalidArgument, OutOfMemory}
+use Rattle.mongo_wire.specs.declared.fault.ArgumentFault.TheVariants.{Bson, MaximumNegative, TooLong}
+use Rattle.mongo_wire.specs.Outside.{State, Unfailed}
+use Rattle.mongo_wire.specs.Bytes.{IsWholeWithin}
+use Rattle.mongo_command.specs.Connection.{kept_fault, KeepsRest}
+use Rattle.mongo_command.specs.Exchange.{Point, point, CountsStay}
+use Rattle.mongo_command.specs.EndsExchange.{Footing}
+use Rattle.mongo_command.specs.declared.stream_description.StreamDescription.{StreamDescription}
+use Rattle.mongo_exec.specs.Insert.{Insert, insert_document, insert_size}
+use Rattle.mongo_exec.specs.Cut.{IsFirstBatch, IsCutTo}
+use Rattle.mongo_exec.specs.Outcome.{Answered, outcome_of, nothing_inserted, Stops, GoesTo}
+use Rattle.mongo_exec.specs.Batches.{Sent, BatchRefused, IsAnswered}
+use Rattle.mongo_exec.specs.declared.insert_outcome.InsertOutcome.{InsertOutcome}
+use Rattle.mongo_exec.specs.declared.exec_error.ExecError.{ExecError}
+use Rattle.mongo_exec.specs.declared.exec_error.ExecError.TheVariants.{NoDescription, NoDocuments, BatchSize, DocumentTooLong, Wire}
+use Rattle.mongo_exec.specs.declared.exec_error.InsertFault.{InsertFault}
+
+-- ---- before the first byte
+
+-- no document that is longer, and a frame of this document alone that isn't
+pub record IsAccepted (description : StreamDescription) (insert : Insert) (document : List ℕ) : Type 0 where
+  pub document : pos (length document) ≤ℤ description.max_bson_object_size
+  pub frame : pos (insert_size insert (document ∷ [])) ≤ℤ description.max_message_size_bytes
+
+-- what is asked of the documents' number, the command and the server's limits, each after the one before it
+pub record HasBatches (description : StreamDescription) (documents : List (List ℕ)) : Type 0 where
+  pub some : 0 < length documents
+  pub size : pos 1 ≤ℤ description.max_write_batch_size
+
+pub record HasCommand (description : StreamDescription) (insert : Insert) (documents : List (List ℕ)) : Type 0 where
+  pub batches : HasBatches description documents
+  pub document : length (insert_document insert) ≤ maximum_length
+
+pub record HasRoom (description : StreamDescription) (insert : Insert) (documents : List (List ℕ)) : Type 0 where
+  pub command : HasCommand description insert documents
+  pub maximum : pos 0 ≤ℤ description.max_message_size_bytes
+
+-- it can be sent
+pub record IsSendable (description : StreamDescription) (insert : Insert) (documents : List (List ℕ)) : Type 0 where
+  pub room : HasRoom description insert documents
+  pub each : All (IsAccepted description insert) documents
+
+-- the first document that isn't accepted stands at the place
+pub record IsFirstUnaccepted (description : StreamDescription) (insert : Insert) (documents : List (List ℕ)) (place : ℕ) (document : List ℕ) : Type 0 where
+  pub before : List (List ℕ)
+  pub after : List (List ℕ)
+  pub joined : documents ≡ before ++ document ∷ after
+  pub place_is : place ≡ length before
+  pub accepted : All (IsAccepted description insert) before
+
+abbrev pub WireRow : ErrorKind → StreamDescription → Insert → List (List ℕ) → Type 0
+WireRow (InvalidArgument (Bson DocumentLimit)) description insert documents = HasBatches description documents × (maximum_length < length (insert_document insert))
+WireRow (InvalidArgument MaximumNegative) description insert documents = HasCommand description insert documents × (description.max_message_size_bytes <ℤ pos 0)
+WireRow (InvalidArgument TooLong) description insert documents =
+    HasRoom description insert documents × ((place : ℕ) × (document : List ℕ) × IsFirstUnaccepted description insert documents place document
+    × (pos (length document) ≤ℤ description.max_bson_object_size) × (description.max_message_size_bytes <ℤ pos (insert_size insert (document ∷ []))))
+WireRow kind description insert documents = ⊥
+
+-- why an insert is refused by a described server before a byte is written, in this order
+abbrev pub DescribedRow : ExecError → StreamDescription → Insert → List (List ℕ) → Type 0
+DescribedRow NoDescription description insert documents = ⊥
+DescribedRow NoDocuments description insert documents = documents ≡ []
+DescribedRow BatchSize description insert documents = (0 < length documents) × (description.max_write_batch_size <ℤ pos 1)
+DescribedRow (DocumentTooLong place) description insert documents =
+    HasRoom description insert documents × ((document : List ℕ) × IsFirstUnaccepted description insert documents place document × (description.max_bson_object_size <ℤ pos (length document)))
+DescribedRow (Wire error) description insert documents = WireRow error.kind description insert documents
+
+-- the same of any connection: one without a description comes first
+abbrev pub EarlyRow : ExecError → Option StreamDescription → Insert → List (List ℕ) → Type 0
+EarlyRow error None insert documents = error ≡ NoDescription
+EarlyRow error (Some description) insert documents = DescribedRow error description insert documents
+
+-- memory ran out
+abbrev pub IsMemory : ExecError → Type 0
+IsMemory error = error ≡ Wire (record { kind = OutOfMemory })
+
+-- ---- the end
+
+-- All of the list was inserted, or all up to a batch that stops it: its cut's frames were written, one reply was taken for
+-- each, and this is what the replies say.
+pub record Inserts (description : StreamDescription) (insert : Insert) (documents : List (List ℕ)) (outcome : InsertOutcome) (old new : Point) : Type 0 where
+  pub sendable : IsSendable description insert documents
+  pub answered : List Answered
+  pub rest : List (List ℕ)
+  pub sent : Sent description insert documents answered rest old new
+  pub stop : GoesTo insert.ordered answered rest
+  pub outcome_is : outcome ≡ outcome_of answered
+
+-- Nothing was done, by a row of those before the first byte or for want of memory.
+pub record Unbegun (description : Option StreamDescription) (insert : Insert) (documents : List (List ℕ)) (fault : InsertFault) (old new : Point) : Type 0 where
+  pub cause : EarlyRow fault.error description insert documents ⊎ IsMemory fault.error
+  pub link : new.state ≡ old.state
+  pub ids : new.id ≡ old.id
+  pub done : fault.done ≡ nothing_inserted
+
+-- The first batches were inserted, and the next one was refused: what was done is what the replies to those say.
+pub record Interrupted (description : StreamDescription) (insert : Insert) (documents : List (List ℕ)) (fault : InsertFault) (old new : Point) (kept : Option ErrorKind) : Type 0 where
+  pub sendable : IsSendable description insert documents
+  pub answered : List Answered
+  pub rest : List (List ℕ)
+  pub middle : Point
+  pub sent : Sent description insert documents answered rest old middle
+  pub on : All (λ a. Stops insert.ordered a → ⊥) answered
+  pub done : fault.done ≡ outcome_of answered
+  pub batch : List (List ℕ)
+  pub more : List (List ℕ)
+  pub next : IsFirstBatch description insert rest batch more
+  pub kind : ErrorKind
+  pub error : fault.error ≡ Wire (record { kind = kind })
+  pub refused : BatchRefused description insert batch kind middle new kept
+
+-- a fault that the connection keeps is answered, after the rows before the first byte, and nothing is done
+pub record KeptAgain (description : Option StreamDescription) (insert : Insert) (documents : List (List ℕ)) (kind : ErrorKind) (fault : InsertFault) (old new : Point) (kept : Option ErrorKind) : Type 0 where
+  pub cause : EarlyRow fault.error description insert documents ⊎ (IsMemory fault.error ⊎ (((error : ExecError) → EarlyRow error description insert documents → ⊥) × (fault.error ≡ Wire (record { kind = kind }))))
+  pub link : new.state ≡ old.state
+  pub ids : new.id ≡ old.id
+  pub done : fault.done ≡ nothing_inserted
+  pub kept_is : kept ≡ Some kind
+
+-- Bytes that begin with the replies of a server that answers well: each is a frame within the maximum, and says of its batch
+-- what can be said of it.
+pub record AnswersWell (description : StreamDescription) (insert : Insert) (documents : List (List ℕ)) (answered : List Answered) (bytes : List ℕ) : Type 0 where
+  pub rest : List (List ℕ)
+  pub cut : IsCutTo description insert documents (map (λ a. a.batch) answered) rest
+  pub replies : All IsAnswered answered
+  pub stop : GoesTo insert.ordered answered rest
+  pub heard : List ℕ
+  pub unread : List ℕ
+  pub joined : bytes ≡ heard ++ unread
+  pub heard_is : IsWholeWithin description.max_message_size_bytes description.max_message_size_bytes (map (λ a. a.reply) answered) heard
+
+abbrev pub described : {L : Type 0} → Footing L → Option StreamDescription
+described place = place.connection.stream_description
+
+abbrev pub at : {L : Type 0} → (L → State) → Footing L → Point
+at state place = point (state place.link) place.id
+
+-- How an insert of many documents ends.
+pub record EndsInsert {L : Type 0} (state : L → State) (insert : Insert) (documents : List (List ℕ)) (result : Result InsertOutcome InsertFault) (old new : Footing L) : Type 0 where
+  pub inserted : IfOk result (λ outcome. (description : StreamDescription) × (described old ≡ Some description) × Inserts description insert documents outcome (at state old) (at state new))
+  -- each refusal has its cause, and says what was done before it
+  pub refused : kept_fault old.connection ≡ None → IfErr result (λ fault.
+      (Unbegun (described old) insert documents fault (at state old) (at state new) × (kept_fault new.connection ≡ None))
+      ⊎ ((description : StreamDescription) × (described old ≡ Some description) × Interrupted description insert documents fault (at state old) (at state new) (kept_fault new.connection)))
+  -- a fault that the connection keeps is answered again
+  pub kept : (kind : ErrorKind) → kept_fault old.connection ≡ Some kind → IfErr result (λ fault. KeptAgain (described old) insert documents kind fault (at state old) (at state new) (kept_fault new.connection))
+  pub faultless : OnOk result (kept_fault old.connection ≡ None × (kept_fault new.connection ≡ None))
+  -- nothing else of the connection changes, what the link tells stays told, and no count falls
+  pub rest : KeepsRest old.connection new.connection
+  pub counts : CountsStay (state old.link) (state new.link)
+
+-- Where the server answers well and the link doesn't fail, the list is inserted to its end, or memory ran out.
+abbrev pub IsComplete : {L : Type 0} → (L → State) → Insert → List (List ℕ) → Result InsertOutcome InsertFault → Footing L → Footing L → Type 0
+IsComplete state insert documents result old new =
+    (description : StreamDescription) (answered : List Answered) (bytes : List ℕ) → described old ≡ Some description → kept_fault old.connection ≡ None
+    → IsSendable description insert documents → (state old.link).left ≡ Some bytes → AnswersWell description insert documents answered bytes
+    → Unfailed (state old.link) (state new.link)
+    → IfErr result (λ fault. IsMemory fault.error) × IfOk result (λ outcome. outcome ≡ outcome_of answered)
