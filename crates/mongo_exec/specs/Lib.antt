@@ -4,3 +4,4 @@ pub mod Reply
 pub mod Outcome
 pub mod Batches
 pub mod InsertMany
+pub mod Plan

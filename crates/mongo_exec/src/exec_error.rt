@@ -1,4 +1,5 @@
 ghost use Rattle.std.specs.Prelude.{◌≡◌, IfOk, IfErr};
+ghost use Rattle.mongo_wire.specs.Error.{kind_of_fault};
 
 use crate::InsertOutcome;
 use mongo_bson::BsonFault;
@@ -34,6 +35,22 @@ impl ExecError {
             ExecError::Wire(error) => ExecError::Wire(error.try_clone(alloc)?),
         };
         Ok(copy)
+    }
+}
+
+impl From<Error> for ExecError {
+    ghost from_gives = { λ error result. result ≡ ExecError.Wire error };
+
+    fn from(error: Error) -> ExecError {
+        ExecError::Wire(error)
+    }
+}
+
+impl From<BsonFault> for ExecError {
+    ghost from_gives = { λ fault result. result ≡ ExecError.Wire (record { kind = kind_of_fault fault }) };
+
+    fn from(fault: BsonFault) -> ExecError {
+        ExecError::Wire(Error::from(fault))
     }
 }
 

@@ -4,11 +4,11 @@ ghost use Rattle.mongo_exec.specs.Insert.{insert_of};
 ghost use Rattle.mongo_exec.specs.InsertMany.{EndsInsert, IsComplete};
 
 use crate::batches::insert_batches;
-use crate::insert_command::planned;
-use crate::{InsertFault, InsertOutcome};
-use mongo_bson::Documents;
+use crate::plan::{Plan, planned};
+use crate::{ExecError, InsertFault, InsertOutcome};
+use mongo_bson::{Documents, RawDocumentBuf};
 use mongo_command::Connection;
-use mongo_wire::{Link, RequestIds};
+use mongo_wire::{Error, Link, RequestIds};
 use std::alloc::Global;
 
 /// Inserts documents into a collection, as they are, in batches that the server takes: each is as many documents from the
@@ -45,11 +45,31 @@ pub fn insert_many<L: Link>(
     ensures complete { IsComplete L.state (insert_of db.now collection.now ordered) documents.now result (footing connection.old link.old ids.old) (footing connection.new link.new ids.new) }
 {
     let documents = documents.as_slice();
-    match planned(alloc, connection, db, collection, documents, ordered) {
+    match begun(alloc, connection, db, collection, documents, ordered) {
         Ok(plan) => insert_batches(alloc, connection, link, ids, &plan, documents),
         Err(error) => Err(InsertFault {
             error,
             done: InsertOutcome::nothing(alloc),
         }),
+    }
+}
+
+// How the documents are inserted, where the connection keeps no fault.
+//
+// The refusals of `planned`, then the fault that the connection keeps.
+fn begun(
+    alloc: Global,
+    connection: &Connection,
+    db: &str,
+    collection: &str,
+    documents: &[RawDocumentBuf],
+    ordered: bool,
+) -> Result<Plan, ExecError> {
+    let plan = planned(alloc, connection, db, collection, documents, ordered)?;
+    match connection.fault() {
+        Some(kind) => Err(ExecError::Wire(Error {
+            kind: kind.try_clone(alloc)?,
+        })),
+        None => Ok(plan),
     }
 }

@@ -18,6 +18,7 @@ mod insert_command;
 mod insert_many;
 mod insert_outcome;
 mod insert_reply;
+mod plan;
 mod tally;
 
 pub use exec_error::{ExecError, InsertFault};
