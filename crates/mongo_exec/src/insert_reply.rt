@@ -38,6 +38,23 @@ impl BatchReply {
             None => None,
         }
     }
+
+    // Whether it counts and names no more than so many documents.
+    fn is_of(&self, documents: usize) -> bool {
+        self.count <= documents as u64 && are_places_in(self.errors(), documents)
+    }
+}
+
+// Whether each place is one of a list of so many.
+fn are_places_in(errors: &[IndexedWriteError], many: usize) -> bool
+    ensures { IsTrue result ↔ All (IsPlaceIn many) errors.now }
+{
+    'placing: for error in errors {
+        if error.index as usize >= many {
+            return false;
+        }
+    }
+    true
 }
 
 // What a reply tells of the insert of so many documents.

@@ -1,0 +1,3 @@
+mod inserts;
+mod job;
+mod rows;
