@@ -24,8 +24,8 @@ use Rattle.mongo_exec.specs.declared.exec_error.InsertFault.{InsertFault}
 
 -- no document that is longer, and a frame of this document alone that isn't
 pub record IsAccepted (description : StreamDescription) (insert : Insert) (document : List ℕ) : Type 0 where
-  pub document : pos (length document) ≤ℤ description.max_bson_object_size
-  pub frame : pos (insert_size insert (document ∷ [])) ≤ℤ description.max_message_size_bytes
+  pub whole : pos (length document) ≤ℤ description.max_bson_object_size
+  pub alone : pos (insert_size insert (document ∷ [])) ≤ℤ description.max_message_size_bytes
 
 -- what is asked of the documents' number, the command and the server's limits, each after the one before it
 pub record HasBatches (description : StreamDescription) (documents : List (List ℕ)) : Type 0 where
@@ -79,7 +79,16 @@ EarlyRow error (Some description) insert documents = DescribedRow error descript
 abbrev pub IsMemory : ExecError → Type 0
 IsMemory error = error ≡ Wire (record { kind = OutOfMemory })
 
+-- why nothing is begun: a row of those, or else the fault that the connection keeps; or memory ran out
+abbrev pub BeginRefused : ExecError → Option StreamDescription → Option ErrorKind → Insert → List (List ℕ) → Type 0
+BeginRefused error description kept insert documents =
+    EarlyRow error description insert documents
+    ⊎ (IsMemory error ⊎ (((row : ExecError) → EarlyRow row description insert documents → ⊥) × ((kind : ErrorKind) × (kept ≡ Some kind) × (error ≡ Wire (record { kind = kind })))))
+
 -- ---- the end
+
+abbrev pub described : {L : Type 0} → Footing L → Option StreamDescription
+described place = place.connection.stream_description
 
 -- All of the list was inserted, or all up to a batch that stops it: its cut's frames were written, one reply was taken for
 -- each, and this is what the replies say.
@@ -91,12 +100,13 @@ pub record Inserts (description : StreamDescription) (insert : Insert) (document
   pub stop : GoesTo insert.ordered answered rest
   pub outcome_is : outcome ≡ outcome_of answered
 
--- Nothing was done, by a row of those before the first byte or for want of memory.
-pub record Unbegun (description : Option StreamDescription) (insert : Insert) (documents : List (List ℕ)) (fault : InsertFault) (old new : Point) : Type 0 where
-  pub cause : EarlyRow fault.error description insert documents ⊎ IsMemory fault.error
-  pub link : new.state ≡ old.state
-  pub ids : new.id ≡ old.id
+-- Nothing was done: why, and the link, the ids and the kept fault are as they were.
+pub record Unbegun {L : Type 0} (insert : Insert) (documents : List (List ℕ)) (fault : InsertFault) (old new : Footing L) : Type 0 where
+  pub cause : BeginRefused fault.error (described old) (kept_fault old.connection) insert documents
   pub done : fault.done ≡ nothing_inserted
+  pub link : new.link ≡ old.link
+  pub ids : new.id ≡ old.id
+  pub kept : kept_fault new.connection ≡ kept_fault old.connection
 
 -- The first batches were inserted, and the next one was refused: what was done is what the replies to those say.
 pub record Interrupted (description : StreamDescription) (insert : Insert) (documents : List (List ℕ)) (fault : InsertFault) (old new : Point) (kept : Option ErrorKind) : Type 0 where
@@ -114,14 +124,6 @@ pub record Interrupted (description : StreamDescription) (insert : Insert) (docu
   pub error : fault.error ≡ Wire (record { kind = kind })
   pub refused : BatchRefused description insert batch kind middle new kept
 
--- a fault that the connection keeps is answered, after the rows before the first byte, and nothing is done
-pub record KeptAgain (description : Option StreamDescription) (insert : Insert) (documents : List (List ℕ)) (kind : ErrorKind) (fault : InsertFault) (old new : Point) (kept : Option ErrorKind) : Type 0 where
-  pub cause : EarlyRow fault.error description insert documents ⊎ (IsMemory fault.error ⊎ (((error : ExecError) → EarlyRow error description insert documents → ⊥) × (fault.error ≡ Wire (record { kind = kind }))))
-  pub link : new.state ≡ old.state
-  pub ids : new.id ≡ old.id
-  pub done : fault.done ≡ nothing_inserted
-  pub kept_is : kept ≡ Some kind
-
 -- Bytes that begin with the replies of a server that answers well: each is a frame within the maximum, and says of its batch
 -- what can be said of it.
 pub record AnswersWell (description : StreamDescription) (insert : Insert) (documents : List (List ℕ)) (answered : List Answered) (bytes : List ℕ) : Type 0 where
@@ -134,9 +136,6 @@ pub record AnswersWell (description : StreamDescription) (insert : Insert) (docu
   pub joined : bytes ≡ heard ++ unread
   pub heard_is : IsWholeWithin description.max_message_size_bytes description.max_message_size_bytes (map (λ a. a.reply) answered) heard
 
-abbrev pub described : {L : Type 0} → Footing L → Option StreamDescription
-described place = place.connection.stream_description
-
 abbrev pub at : {L : Type 0} → (L → State) → Footing L → Point
 at state place = point (state place.link) place.id
 
@@ -144,12 +143,10 @@ at state place = point (state place.link) place.id
 pub record EndsInsert {L : Type 0} (state : L → State) (insert : Insert) (documents : List (List ℕ)) (result : Result InsertOutcome InsertFault) (old new : Footing L) : Type 0 where
   pub inserted : IfOk result (λ outcome. (description : StreamDescription) × (described old ≡ Some description) × Inserts description insert documents outcome (at state old) (at state new))
   -- each refusal has its cause, and says what was done before it
-  pub refused : kept_fault old.connection ≡ None → IfErr result (λ fault.
-      (Unbegun (described old) insert documents fault (at state old) (at state new) × (kept_fault new.connection ≡ None))
-      ⊎ ((description : StreamDescription) × (described old ≡ Some description) × Interrupted description insert documents fault (at state old) (at state new) (kept_fault new.connection)))
-  -- a fault that the connection keeps is answered again
-  pub kept : (kind : ErrorKind) → kept_fault old.connection ≡ Some kind → IfErr result (λ fault. KeptAgain (described old) insert documents kind fault (at state old) (at state new) (kept_fault new.connection))
-  pub faultless : OnOk result (kept_fault old.connection ≡ None × (kept_fault new.connection ≡ None))
+  pub refused : IfErr result (λ fault. Unbegun insert documents fault old new
+      ⊎ ((description : StreamDescription) × (described old ≡ Some description) × (kept_fault old.connection ≡ None) × Interrupted description insert documents fault (at state old) (at state new) (kept_fault new.connection)))
+  -- a fault that the connection keeps is answered again, and after an answer none is kept
+  pub faultless : OnOk result ((kept_fault old.connection ≡ None) × (kept_fault new.connection ≡ None))
   -- nothing else of the connection changes, what the link tells stays told, and no count falls
   pub rest : KeepsRest old.connection new.connection
   pub counts : CountsStay (state old.link) (state new.link)

@@ -4,4 +4,6 @@ pub mod Reply
 pub mod Outcome
 pub mod Batches
 pub mod InsertMany
+pub mod Told
 pub mod Plan
+pub mod Course

@@ -39,7 +39,9 @@ impl ExecError {
 }
 
 impl From<Error> for ExecError {
-    ghost from_gives = { λ error result. result ≡ ExecError.Wire error };
+    ghost use Rattle.mongo_exec.specs.declared.exec_error.ExecError.TheVariants.{Wire};
+
+    ghost from_gives = { λ error result. result ≡ Wire error };
 
     fn from(error: Error) -> ExecError {
         ExecError::Wire(error)
@@ -47,7 +49,9 @@ impl From<Error> for ExecError {
 }
 
 impl From<BsonFault> for ExecError {
-    ghost from_gives = { λ fault result. result ≡ ExecError.Wire (record { kind = kind_of_fault fault }) };
+    ghost use Rattle.mongo_exec.specs.declared.exec_error.ExecError.TheVariants.{Wire};
+
+    ghost from_gives = { λ fault result. result ≡ Wire (record { kind = kind_of_fault fault }) };
 
     fn from(fault: BsonFault) -> ExecError {
         ExecError::Wire(Error::from(fault))

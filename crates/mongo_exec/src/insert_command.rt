@@ -1,8 +1,9 @@
-ghost use Rattle.std.specs.Prelude.{◌≡◌, ◌+◌, length, [], IfOk, IfErr};
+ghost use Rattle.std.specs.Prelude.{◌≡◌, ◌∷◌, [], IfOk, IfErr};
 ghost use Rattle.mongo_wire.specs.declared.error.ErrorKind.TheVariants.{OutOfMemory};
+ghost use Rattle.mongo_command.specs.Command.{command_document};
 ghost use Rattle.mongo_command.specs.Exchange.{DocumentRefused};
 ghost use Rattle.mongo_command.specs.Collection.{frame_size};
-ghost use Rattle.mongo_exec.specs.Insert.{insert_of, bare_command, insert_document, insert_size, documents_sequence};
+ghost use Rattle.mongo_exec.specs.Insert.{insert_of, bare_command, insert_document, documents_sequence};
 
 use crate::batch::copies_of;
 use mongo_bson::{RawDocumentBuf, Text};
@@ -49,7 +50,6 @@ pub(crate) fn bare_command(
 //
 // `Bson(TooLong)` where the command's document would pass 2147483647 bytes.
 pub(crate) fn bare_size(alloc: Global, command: &Command) -> Result<usize, Error>
-    requires { command.now.document_sequences ≡ [] }
     ensures size { IfOk result (λ size. size ≡ frame_size (record command.now { document_sequences = documents_sequence [] ∷ [] })) }
     ensures refused { IfErr result (λ e. DocumentRefused e.kind (command_document command.now)) }
 {

@@ -1,6 +1,8 @@
-ghost use Rattle.std.specs.Prelude.{◌≡◌, ◌<◌, ◌≤◌, ◌↔◌, All, IsTrue, unwrap_or, IfOk, IfErr};
+ghost use Rattle.std.specs.Prelude.{◌≡◌, ◌↔◌, All, IsTrue, option_copied, IfOk, IfErr};
 ghost use Rattle.mongo_command.specs.Response.{reply_document};
-ghost use Rattle.mongo_exec.specs.Reply.{Said, IsInsertReply, IsPlaceIn, ReplyRefused, Tells, told_errors};
+ghost use Rattle.mongo_command.specs.WriteReply.{SaysOfWrite, insert_failure, WriteReplyRefused};
+ghost use Rattle.mongo_exec.specs.Reply.{Said, IsInsertReply, IsPlaceIn, ReplyRefused};
+ghost use Rattle.mongo_exec.specs.Told.{told_errors, told_concern, Tells, TellsOf};
 
 use mongo_command::{RawCommandResponse, command_body};
 use mongo_wire::{
@@ -29,7 +31,7 @@ impl BatchReply {
         }
     }
 
-    // The write concern that wasn't met.
+    // The write concern that wasn't met, where one wasn't.
     pub(crate) fn concern(&self) -> Option<&WriteConcernError>
         ensures { option_copied result ≡ told_concern self.now }
     {
@@ -40,7 +42,9 @@ impl BatchReply {
     }
 
     // Whether it counts and names no more than so many documents.
-    fn is_of(&self, documents: usize) -> bool {
+    fn is_of(&self, documents: usize) -> bool
+        ensures { IsTrue result ↔ TellsOf documents self.now }
+    {
         self.count <= documents as u64 && are_places_in(self.errors(), documents)
     }
 }
@@ -67,6 +71,7 @@ pub(crate) fn read_insert_reply(
     documents: usize,
 ) -> Result<BatchReply, Error>
     ensures read { IfOk result (λ told. (said : Said) × IsInsertReply documents (reply_document response.now) said × Tells told said) }
+    ensures within { IfOk result (TellsOf documents) }
     ensures refused { IfErr result (λ e. ReplyRefused e.kind documents (reply_document response.now)) }
 {
     command_body(alloc, response)?;
@@ -84,7 +89,10 @@ pub(crate) fn read_insert_reply(
 fn refused_writes(
     alloc: Global,
     response: &RawCommandResponse,
-) -> Result<Option<InsertManyError>, Error> {
+) -> Result<Option<InsertManyError>, Error>
+    ensures said { IfOk result (SaysOfWrite insert_failure (reply_document response.now)) }
+    ensures refused { IfErr result (λ e. WriteReplyRefused e.kind (reply_document response.now)) }
+{
     match response.validate_insert_many(alloc) {
         Ok(()) => Ok(None),
         Err(Error {

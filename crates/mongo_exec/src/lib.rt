@@ -15,12 +15,13 @@ mod batch;
 mod batches;
 mod exec_error;
 mod insert_command;
-mod insert_many;
+
 mod insert_outcome;
 mod insert_reply;
+mod inserting;
 mod plan;
 mod tally;
 
 pub use exec_error::{ExecError, InsertFault};
-pub use insert_many::insert_many;
+pub use inserting::insert_many;
 pub use insert_outcome::{InsertOutcome, WriteConcernErrors};

@@ -1,7 +1,10 @@
-ghost use Rattle.std.specs.Prelude.{◌≡◌, ◌<◌, ◌^◌, length};
+ghost use Rattle.std.specs.Prelude.{◌≡◌, ◌<◌, ◌^◌, None, Some, length, IfOk, IfErr, OnOk};
+ghost use Rattle.mongo_command.specs.Connection.{kept_fault};
 ghost use Rattle.mongo_command.specs.EndsExchange.{footing};
+ghost use Rattle.mongo_command.specs.declared.stream_description.StreamDescription.{StreamDescription};
 ghost use Rattle.mongo_exec.specs.Insert.{insert_of};
-ghost use Rattle.mongo_exec.specs.InsertMany.{EndsInsert, IsComplete};
+ghost use Rattle.mongo_exec.specs.InsertMany.{EndsInsert, IsComplete, BeginRefused};
+ghost use Rattle.mongo_exec.specs.Plan.{IsPlan};
 
 use crate::batches::insert_batches;
 use crate::plan::{Plan, planned};
@@ -64,7 +67,12 @@ fn begun(
     collection: &str,
     documents: &[RawDocumentBuf],
     ordered: bool,
-) -> Result<Plan, ExecError> {
+) -> Result<Plan, ExecError>
+    requires { length documents.now < 2 ^ 32 }
+    ensures plan { IfOk result (λ plan. (description : StreamDescription) × (connection.now.stream_description ≡ Some description) × IsPlan description (insert_of db.now collection.now ordered) documents.now plan) }
+    ensures unkept { OnOk result (kept_fault connection.now ≡ None) }
+    ensures refused { IfErr result (λ error. BeginRefused error connection.now.stream_description (kept_fault connection.now) (insert_of db.now collection.now ordered) documents.now) }
+{
     let plan = planned(alloc, connection, db, collection, documents, ordered)?;
     match connection.fault() {
         Some(kind) => Err(ExecError::Wire(Error {
