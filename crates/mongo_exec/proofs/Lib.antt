@@ -1,0 +1,4 @@
+pub mod Sizes
+pub mod Greedy
+pub mod ReplyRows
+pub mod OneBatch
