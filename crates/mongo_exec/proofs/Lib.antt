@@ -1,4 +1,5 @@
 pub mod Sizes
 pub mod Greedy
+pub mod Accepting
 pub mod ReplyRows
 pub mod OneBatch

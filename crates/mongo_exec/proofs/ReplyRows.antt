@@ -31,7 +31,7 @@ told_of (Some errors) concern labels refused is = subst (λ r. (unwrap_or (optio
 told_of None (Some concern) labels refused is = subst (λ r. (unwrap_or (option_and_then (λ x. x.write_errors) r) [] ≡ []) × (option_and_then (λ x. x.write_concern_error) r ≡ Some concern)) is (refl, refl)
 told_of None None labels refused is = subst (λ r. (unwrap_or (option_and_then (λ x. x.write_errors) r) [] ≡ []) × (option_and_then (λ x. x.write_concern_error) r ≡ None)) is (refl, refl)
 
-said_of : BatchReply → InsertManyError → Said
+abbrev said_of : BatchReply → InsertManyError → Said
 said_of told refused = record { count = told.count; refused = refused }
 
 tells : (told : BatchReply) (refused : InsertManyError) → insert_failure refused ≡ told.refused → Tells told (said_of told refused)

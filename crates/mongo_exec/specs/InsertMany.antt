@@ -4,6 +4,7 @@ use Rattle.mongo_bson.specs.Framed.{maximum_length}
 use Rattle.mongo_bson.specs.declared.fault.BsonFault.TheVariants.{TooLong as DocumentLimit}
 use Rattle.mongo_wire.specs.declared.error.ErrorKind.{ErrorKind}
 use Rattle.mongo_wire.specs.declared.error.ErrorKind.TheVariants.{InvalidArgument, OutOfMemory}
+use Rattle.mongo_wire.specs.declared.fault.ArgumentFault.{ArgumentFault}
 use Rattle.mongo_wire.specs.declared.fault.ArgumentFault.TheVariants.{Bson, MaximumNegative, TooLong}
 use Rattle.mongo_wire.specs.Outside.{State, Unfailed}
 use Rattle.mongo_wire.specs.Bytes.{IsWholeWithin}
@@ -21,6 +22,10 @@ use Rattle.mongo_exec.specs.declared.exec_error.ExecError.TheVariants.{NoDescrip
 use Rattle.mongo_exec.specs.declared.exec_error.InsertFault.{InsertFault}
 
 -- ---- before the first byte
+
+-- what an argument is refused as
+abbrev pub argument_error : ArgumentFault → ExecError
+argument_error fault = Wire (record { kind = InvalidArgument fault })
 
 -- no document that is longer, and a frame of this document alone that isn't
 pub record IsAccepted (description : StreamDescription) (insert : Insert) (document : List ℕ) : Type 0 where
@@ -53,12 +58,19 @@ pub record IsFirstUnaccepted (description : StreamDescription) (insert : Insert)
   pub place_is : place ≡ length before
   pub accepted : All (IsAccepted description insert) before
 
+-- why that document isn't: it is longer, or else its insert is
+abbrev pub UnacceptedRow : ExecError → StreamDescription → Insert → List (List ℕ) → Type 0
+UnacceptedRow (DocumentTooLong place) description insert documents =
+    (document : List ℕ) × IsFirstUnaccepted description insert documents place document × (description.max_bson_object_size <ℤ pos (length document))
+UnacceptedRow (Wire error) description insert documents =
+    (error.kind ≡ InvalidArgument TooLong) × ((place : ℕ) × (document : List ℕ) × IsFirstUnaccepted description insert documents place document
+    × (pos (length document) ≤ℤ description.max_bson_object_size) × (description.max_message_size_bytes <ℤ pos (insert_size insert (document ∷ []))))
+UnacceptedRow error description insert documents = ⊥
+
 abbrev pub WireRow : ErrorKind → StreamDescription → Insert → List (List ℕ) → Type 0
 WireRow (InvalidArgument (Bson DocumentLimit)) description insert documents = HasBatches description documents × (maximum_length < length (insert_document insert))
 WireRow (InvalidArgument MaximumNegative) description insert documents = HasCommand description insert documents × (description.max_message_size_bytes <ℤ pos 0)
-WireRow (InvalidArgument TooLong) description insert documents =
-    HasRoom description insert documents × ((place : ℕ) × (document : List ℕ) × IsFirstUnaccepted description insert documents place document
-    × (pos (length document) ≤ℤ description.max_bson_object_size) × (description.max_message_size_bytes <ℤ pos (insert_size insert (document ∷ []))))
+WireRow (InvalidArgument TooLong) description insert documents = HasRoom description insert documents × UnacceptedRow (argument_error TooLong) description insert documents
 WireRow kind description insert documents = ⊥
 
 -- why an insert is refused by a described server before a byte is written, in this order
@@ -66,8 +78,7 @@ abbrev pub DescribedRow : ExecError → StreamDescription → Insert → List (L
 DescribedRow NoDescription description insert documents = ⊥
 DescribedRow NoDocuments description insert documents = documents ≡ []
 DescribedRow BatchSize description insert documents = (0 < length documents) × (description.max_write_batch_size <ℤ pos 1)
-DescribedRow (DocumentTooLong place) description insert documents =
-    HasRoom description insert documents × ((document : List ℕ) × IsFirstUnaccepted description insert documents place document × (description.max_bson_object_size <ℤ pos (length document)))
+DescribedRow (DocumentTooLong place) description insert documents = HasRoom description insert documents × UnacceptedRow (DocumentTooLong place) description insert documents
 DescribedRow (Wire error) description insert documents = WireRow error.kind description insert documents
 
 -- the same of any connection: one without a description comes first

@@ -1,7 +1,8 @@
-ghost use Rattle.std.specs.Prelude.{◌≡◌, ◌⊎◌, ◌<◌, ◌^◌, Some, length, [], IfOk, IfErr, OnOk};
+ghost use Rattle.std.specs.Prelude.{◌≡◌, ◌⊎◌, ◌↔◌, ◌+◌, ◌<◌, ◌≤◌, ◌^◌, pos, ◌<ℤ◌, ◌≤ℤ◌, Some, length, [], All, IsTrue, IfOk, IfErr, OnOk};
+ghost use Rattle.mongo_bson.specs.Framed.{maximum_length};
 ghost use Rattle.mongo_command.specs.declared.stream_description.StreamDescription.{StreamDescription};
 ghost use Rattle.mongo_exec.specs.Insert.{Insert, insert_of, insert_size};
-ghost use Rattle.mongo_exec.specs.InsertMany.{EarlyRow, DescribedRow, HasBatches, HasCommand, IsSendable, IsMemory};
+ghost use Rattle.mongo_exec.specs.InsertMany.{EarlyRow, DescribedRow, UnacceptedRow, HasBatches, IsAccepted, IsMemory, argument_error};
 ghost use Rattle.mongo_exec.specs.Plan.{IsPlan};
 
 use crate::ExecError;
@@ -62,14 +63,13 @@ fn planned_for(
     judge_number(description, documents)?;
     let command = bare_command(alloc, db, collection, ordered)?;
     let bare = bare_size(alloc, &command)?;
-    judge_documents(description, bare, documents)?;
-    let most = description.max_write_batch_size as usize;
-    let room = description.max_message_size_bytes as usize - bare;
+    let frame = frame_limit(description.max_message_size_bytes)?;
+    judge_documents(description, bare, frame, documents)?;
     Ok(Plan {
         command,
         ordered,
-        most,
-        room,
+        most: batch_limit(description.max_write_batch_size),
+        room: frame - bare,
     })
 }
 
@@ -90,38 +90,71 @@ fn judge_number(
     Ok(())
 }
 
+// How many documents a batch has at most.
+fn batch_limit(limit: i64) -> usize
+    requires { pos 1 ≤ℤ limit }
+    ensures { pos result ≡ limit }
+{
+    limit as usize
+}
+
+// How many bytes a frame has at most. `MaximumNegative` where that is below 0.
+fn frame_limit(maximum: i32) -> Result<usize, ExecError>
+    ensures frame { IfOk result (λ frame. pos frame ≡ maximum) }
+    ensures refused { IfErr result (λ error. (error ≡ argument_error ArgumentFault.MaximumNegative) × (maximum <ℤ pos 0)) }
+{
+    if maximum < 0 {
+        Err(argument_error(ArgumentFault::MaximumNegative))
+    } else {
+        Ok(maximum as usize)
+    }
+}
+
 // Refuses the first document that is longer than the server takes, or whose insert alone is, where an insert without
-// documents has a frame of so many bytes. Before that, a server whose greatest frame is negative.
+// documents has a frame of so many bytes and a frame has at most so many.
 fn judge_documents(
     description: &StreamDescription,
     bare: usize,
+    frame: usize,
     documents: &[RawDocumentBuf],
 ) -> Result<(), ExecError>
     requires few { length documents.now < 2 ^ 32 }
-    ensures sendable { (insert : Insert) → bare ≡ insert_size insert [] → HasCommand description.now insert documents.now → OnOk result (IsSendable description.now insert documents.now) }
-    ensures refused { (insert : Insert) → bare ≡ insert_size insert [] → HasCommand description.now insert documents.now → IfErr result (λ error. DescribedRow error description.now insert documents.now) }
+    requires frame { pos frame ≡ description.now.max_message_size_bytes }
+    ensures accepted { (insert : Insert) → bare ≡ insert_size insert [] → OnOk result (All (IsAccepted description.now insert) documents.now) }
+    ensures refused { (insert : Insert) → bare ≡ insert_size insert [] → IfErr result (λ error. UnacceptedRow error description.now insert documents.now) }
 {
-    if description.max_message_size_bytes < 0 {
-        return Err(refused(ArgumentFault::MaximumNegative));
-    }
-    let frame = description.max_message_size_bytes as usize;
     let mut place: u64 = 0;
     'judging: for document in documents {
         let size = document.as_bytes().len();
-        if size as i64 > description.max_bson_object_size {
+        if is_longer(size, description.max_bson_object_size) {
             return Err(ExecError::DocumentTooLong(place));
         }
-        if bare > frame || size > frame - bare {
-            return Err(refused(ArgumentFault::TooLong));
+        if !has_room(bare, size, frame) {
+            return Err(argument_error(ArgumentFault::TooLong));
         }
         place += 1;
     }
     Ok(())
 }
 
+// Whether a document of this size is longer than the limit.
+fn is_longer(size: usize, limit: i64) -> bool
+    requires { size ≤ maximum_length }
+    ensures { IsTrue result ↔ (limit <ℤ pos size) }
+{
+    size as i64 > limit
+}
+
+// Whether a frame of so many bytes has room for so many more.
+fn has_room(bare: usize, size: usize, frame: usize) -> bool
+    ensures { IsTrue result ↔ (bare + size ≤ frame) }
+{
+    bare <= frame && size <= frame - bare
+}
+
 // What an argument is refused as.
-fn refused(fault: ArgumentFault) -> ExecError
-    ensures { result ≡ ExecError.Wire (record { kind = ErrorKind.InvalidArgument fault }) }
+fn argument_error(fault: ArgumentFault) -> ExecError
+    ensures { result ≡ argument_error fault }
 {
     ExecError::Wire(Error {
         kind: ErrorKind::InvalidArgument(fault),

@@ -1,4 +1,4 @@
-use Rattle.std.proofs.Common.{◌≡◌, pos, [], take}
+use Rattle.std.proofs.Common.{◌≡◌, [], take}
 use Rattle.std.specs.List.{All}
 use Rattle.mongo_exec.specs.Insert.{Insert, insert_size}
 use Rattle.mongo_exec.specs.InsertMany.{IsAccepted}
@@ -7,6 +7,5 @@ use Rattle.mongo_exec.proofs.plan.judge_documents.Given as goal
 abbrev pub invariant-judging : goal.invariant-judging
 invariant-judging l = record {
   placed : l.place ≡ l.document-index;
-  frame : pos l.frame ≡ l.description.max_message_size_bytes;
   accepted : (insert : Insert) → l.bare ≡ insert_size insert [] → All (IsAccepted l.description insert) (take l.document-index l.documents);
 }
