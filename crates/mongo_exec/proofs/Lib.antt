@@ -1,5 +1,6 @@
 pub mod Sizes
 pub mod Greedy
 pub mod Accepting
+pub mod Planning
 pub mod ReplyRows
 pub mod OneBatch

@@ -58,19 +58,30 @@ pub record IsFirstUnaccepted (description : StreamDescription) (insert : Insert)
   pub place_is : place ≡ length before
   pub accepted : All (IsAccepted description insert) before
 
--- why that document isn't: it is longer, or else its insert is
+-- that document is longer
+pub record IsTooLong (description : StreamDescription) (insert : Insert) (documents : List (List ℕ)) (place : ℕ) : Type 0 where
+  pub document : List ℕ
+  pub first : IsFirstUnaccepted description insert documents place document
+  pub long : description.max_bson_object_size <ℤ pos (length document)
+
+-- that document isn't, and its insert is
+pub record IsTooLongAlone (description : StreamDescription) (insert : Insert) (documents : List (List ℕ)) : Type 0 where
+  pub place : ℕ
+  pub document : List ℕ
+  pub first : IsFirstUnaccepted description insert documents place document
+  pub short : pos (length document) ≤ℤ description.max_bson_object_size
+  pub long : description.max_message_size_bytes <ℤ pos (insert_size insert (document ∷ []))
+
+-- why that document isn't accepted
 abbrev pub UnacceptedRow : ExecError → StreamDescription → Insert → List (List ℕ) → Type 0
-UnacceptedRow (DocumentTooLong place) description insert documents =
-    (document : List ℕ) × IsFirstUnaccepted description insert documents place document × (description.max_bson_object_size <ℤ pos (length document))
-UnacceptedRow (Wire error) description insert documents =
-    (error.kind ≡ InvalidArgument TooLong) × ((place : ℕ) × (document : List ℕ) × IsFirstUnaccepted description insert documents place document
-    × (pos (length document) ≤ℤ description.max_bson_object_size) × (description.max_message_size_bytes <ℤ pos (insert_size insert (document ∷ []))))
+UnacceptedRow (DocumentTooLong place) description insert documents = IsTooLong description insert documents place
+UnacceptedRow (Wire error) description insert documents = (error.kind ≡ InvalidArgument TooLong) × IsTooLongAlone description insert documents
 UnacceptedRow error description insert documents = ⊥
 
 abbrev pub WireRow : ErrorKind → StreamDescription → Insert → List (List ℕ) → Type 0
 WireRow (InvalidArgument (Bson DocumentLimit)) description insert documents = HasBatches description documents × (maximum_length < length (insert_document insert))
 WireRow (InvalidArgument MaximumNegative) description insert documents = HasCommand description insert documents × (description.max_message_size_bytes <ℤ pos 0)
-WireRow (InvalidArgument TooLong) description insert documents = HasRoom description insert documents × UnacceptedRow (argument_error TooLong) description insert documents
+WireRow (InvalidArgument TooLong) description insert documents = HasRoom description insert documents × IsTooLongAlone description insert documents
 WireRow kind description insert documents = ⊥
 
 -- why an insert is refused by a described server before a byte is written, in this order
@@ -78,7 +89,7 @@ abbrev pub DescribedRow : ExecError → StreamDescription → Insert → List (L
 DescribedRow NoDescription description insert documents = ⊥
 DescribedRow NoDocuments description insert documents = documents ≡ []
 DescribedRow BatchSize description insert documents = (0 < length documents) × (description.max_write_batch_size <ℤ pos 1)
-DescribedRow (DocumentTooLong place) description insert documents = HasRoom description insert documents × UnacceptedRow (DocumentTooLong place) description insert documents
+DescribedRow (DocumentTooLong place) description insert documents = HasRoom description insert documents × IsTooLong description insert documents place
 DescribedRow (Wire error) description insert documents = WireRow error.kind description insert documents
 
 -- the same of any connection: one without a description comes first

@@ -1,4 +1,5 @@
-ghost use Rattle.std.specs.Prelude.{◌≡◌, ◌∷◌, [], IfOk, IfErr};
+ghost use Rattle.std.specs.Prelude.{◌≡◌, ◌≤◌, ◌∷◌, [], length, IfOk, IfErr, OnOk};
+ghost use Rattle.mongo_bson.specs.Framed.{maximum_length};
 ghost use Rattle.mongo_wire.specs.declared.error.ErrorKind.TheVariants.{OutOfMemory};
 ghost use Rattle.mongo_command.specs.Command.{command_document};
 ghost use Rattle.mongo_command.specs.Exchange.{DocumentRefused};
@@ -51,6 +52,7 @@ pub(crate) fn bare_command(
 // `Bson(TooLong)` where the command's document would pass 2147483647 bytes.
 pub(crate) fn bare_size(alloc: Global, command: &Command) -> Result<usize, Error>
     ensures size { IfOk result (λ size. size ≡ frame_size (record command.now { document_sequences = documents_sequence [] ∷ [] })) }
+    ensures fits { OnOk result (length (command_document command.now) ≤ maximum_length) }
     ensures refused { IfErr result (λ e. DocumentRefused e.kind (command_document command.now)) }
 {
     let document = command.to_document(alloc)?;

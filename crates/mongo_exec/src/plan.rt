@@ -1,4 +1,4 @@
-ghost use Rattle.std.specs.Prelude.{◌≡◌, ◌⊎◌, ◌↔◌, ◌+◌, ◌<◌, ◌≤◌, ◌^◌, pos, ◌<ℤ◌, ◌≤ℤ◌, Some, length, [], All, IsTrue, IfOk, IfErr, OnOk};
+ghost use Rattle.std.specs.Prelude.{◌≡◌, ◌⊎◌, ◌+◌, ◌<◌, ◌≤◌, ◌^◌, pos, ◌<ℤ◌, ◌≤ℤ◌, Some, length, [], All, IsTrue, IsFalse, IfOk, IfErr, OnOk};
 ghost use Rattle.mongo_bson.specs.Framed.{maximum_length};
 ghost use Rattle.mongo_command.specs.declared.stream_description.StreamDescription.{StreamDescription};
 ghost use Rattle.mongo_exec.specs.Insert.{Insert, insert_of, insert_size};
@@ -63,12 +63,12 @@ fn planned_for(
     judge_number(description, documents)?;
     let command = bare_command(alloc, db, collection, ordered)?;
     let bare = bare_size(alloc, &command)?;
-    let frame = frame_limit(description.max_message_size_bytes)?;
+    let frame = frame_limit(frame_maximum(description))?;
     judge_documents(description, bare, frame, documents)?;
     Ok(Plan {
         command,
         ordered,
-        most: batch_limit(description.max_write_batch_size),
+        most: batch_limit(batch_maximum(description)),
         room: frame - bare,
     })
 }
@@ -88,6 +88,27 @@ fn judge_number(
         return Err(ExecError::BatchSize);
     }
     Ok(())
+}
+
+// How many documents the server takes in a batch.
+fn batch_maximum(description: &StreamDescription) -> i64
+    ensures { result ≡ description.now.max_write_batch_size }
+{
+    description.max_write_batch_size
+}
+
+// How many bytes of a frame it takes.
+fn frame_maximum(description: &StreamDescription) -> i32
+    ensures { result ≡ description.now.max_message_size_bytes }
+{
+    description.max_message_size_bytes
+}
+
+// How many bytes of a document it takes.
+fn document_maximum(description: &StreamDescription) -> i64
+    ensures { result ≡ description.now.max_bson_object_size }
+{
+    description.max_bson_object_size
 }
 
 // How many documents a batch has at most.
@@ -123,10 +144,11 @@ fn judge_documents(
     ensures accepted { (insert : Insert) → bare ≡ insert_size insert [] → OnOk result (All (IsAccepted description.now insert) documents.now) }
     ensures refused { (insert : Insert) → bare ≡ insert_size insert [] → IfErr result (λ error. UnacceptedRow error description.now insert documents.now) }
 {
+    let longest = document_maximum(description);
     let mut place: u64 = 0;
     'judging: for document in documents {
         let size = document.as_bytes().len();
-        if is_longer(size, description.max_bson_object_size) {
+        if is_longer(size, longest) {
             return Err(ExecError::DocumentTooLong(place));
         }
         if !has_room(bare, size, frame) {
@@ -140,14 +162,16 @@ fn judge_documents(
 // Whether a document of this size is longer than the limit.
 fn is_longer(size: usize, limit: i64) -> bool
     requires { size ≤ maximum_length }
-    ensures { IsTrue result ↔ (limit <ℤ pos size) }
+    ensures longer { IsTrue result → limit <ℤ pos size }
+    ensures short { IsFalse result → pos size ≤ℤ limit }
 {
     size as i64 > limit
 }
 
 // Whether a frame of so many bytes has room for so many more.
 fn has_room(bare: usize, size: usize, frame: usize) -> bool
-    ensures { IsTrue result ↔ (bare + size ≤ frame) }
+    ensures room { IsTrue result → bare + size ≤ frame }
+    ensures full { IsFalse result → frame < bare + size }
 {
     bare <= frame && size <= frame - bare
 }

@@ -14,4 +14,4 @@ returns-then-is_of-clause-read c =
 
 pub returns-else-is_of-clause-refused : goal.returns-else-is_of-clause-refused
 returns-else-is_of-clause-refused c =
-    rw (c.into.ensures) (reply_other _ _ (record { count = c.in_ok-count.count; refused = c.in_ok-refused.refused }) c.in_ok-command_body.ensures.succeeded c.in_ok-count.ensures.count c.in_ok-refused.ensures.said (λ within. ?))
+    rw (c.into.ensures) (reply_other c.args.documents _ (record { count = c.in_ok-count.count; refused = c.in_ok-refused.refused }) c.in_ok-command_body.ensures.succeeded c.in_ok-count.ensures.count c.in_ok-refused.ensures.said (λ within. (let yes = c.is_of.ensures.1 within in let no = c.if-is_of.false in cc)))
