@@ -4,3 +4,4 @@ pub mod Accepting
 pub mod Planning
 pub mod ReplyRows
 pub mod OneBatch
+pub mod Coming

@@ -1,5 +1,5 @@
 -- How the insert of one batch ends, and how far a whole insert has come.
-use Rattle.std.specs.Prelude.{◌≡◌, ℕ, ◌+◌, ◌≤◌, None, Some, Result, List, length, All, IfOk, IfErr, OnOk}
+use Rattle.std.specs.Prelude.{◌≡◌, ℕ, ◌+◌, ◌≤◌, None, Some, Result, List, length, sum_by, All, IfOk, IfErr, OnOk}
 use Rattle.mongo_wire.specs.declared.error.Error.{Error}
 use Rattle.mongo_wire.specs.Outside.{State}
 use Rattle.mongo_command.specs.Connection.{kept_fault, KeepsRest}
@@ -9,7 +9,7 @@ use Rattle.mongo_command.specs.declared.stream_description.StreamDescription.{St
 use Rattle.mongo_exec.specs.Insert.{Insert, insert_message}
 use Rattle.mongo_exec.specs.Outcome.{Answered, outcome_of, Stops}
 use Rattle.mongo_exec.specs.Batches.{Sent, BatchRefused, IsAnswered}
-use Rattle.mongo_exec.specs.InsertMany.{at, Inserts, Interrupted}
+use Rattle.mongo_exec.specs.InsertMany.{at, IsAccepted, Inserts, Interrupted}
 use Rattle.mongo_exec.specs.Told.{IsBehind, with_told, Tells, TellsOf}
 use Rattle.mongo_exec.specs.declared.insert_outcome.InsertOutcome.{InsertOutcome}
 use Rattle.mongo_exec.specs.declared.exec_error.InsertFault.{InsertFault}
@@ -33,12 +33,18 @@ pub record EndsBatch {L : Type 0} (state : L → State) (description : StreamDes
   pub rest : KeepsRest old.connection new.connection
   pub counts : CountsStay (state old.link) (state new.link)
 
+-- how many documents the batches have
+abbrev pub many_in : List Answered → ℕ
+many_in answered = sum_by (λ a. length a.batch) answered
+
 -- Batches were inserted so far, none of which stops the insert, and this is left.
 pub record Come {L : Type 0} (state : L → State) (description : StreamDescription) (insert : Insert) (documents : List (List ℕ)) (answered : List Answered) (rest : List (List ℕ)) (place : ℕ) (tally : Tally) (old now : Footing L) : Type 0 where
   pub sent : Sent description insert documents answered rest (at state old) (at state now)
   pub on : All (λ a. Stops insert.ordered a → ⊥) answered
   pub outcome : tally.outcome ≡ outcome_of answered
   pub behind : IsBehind tally
+  pub accepted : All (IsAccepted description insert) rest
+  pub place_is : place ≡ many_in answered
   pub left : place + length rest ≡ length documents
   pub inserted : tally.outcome.inserted ≤ place
   pub batches : tally.outcome.batches ≤ place

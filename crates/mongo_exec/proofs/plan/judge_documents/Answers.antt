@@ -1,5 +1,8 @@
-use Rattle.std.proofs.Common.{length, ap, arith, refl}
+use Rattle.std.proofs.Common.{length, ap, arith, refl, subst}
+use Rattle.std.specs.List.{All}
 use Rattle.std.proofs.lemmas.Int.{ints}
+use Rattle.std.proofs.lemmas.List.{take_all}
+use Rattle.mongo_exec.specs.InsertMany.{IsAccepted}
 use Rattle.mongo_exec.proofs.Accepting.{one_accepted, one_too_long, first_unaccepted, accepted_more}
 use Rattle.mongo_exec.proofs.plan.judge_documents.Goals as goal
 
@@ -28,3 +31,7 @@ returns-then-not-has_room-clause-refused c insert is = rw (c.argument_error.ensu
   short = omega (arith, ints, c.is_longer.ensures.short c.if-is_longer.false, c.judging.invariant.longest, ap length c.as_bytes-size.ensures.bytes);
   long = one_too_long c.args.description.now insert c.document-item.result c.args.bare c.args.frame is c.requires.frame (omega (arith, c.has_room.ensures.full c.if-not-has_room.true, ap length c.as_bytes-size.ensures.bytes));
 })
+
+pub returns-clause-accepted : goal.returns-clause-accepted
+returns-clause-accepted c insert is =
+    subst (All (IsAccepted c.args.description.now insert)) (take_all c.judging.document-index c.args.documents.now (omega (arith, c.judging-test.false))) (c.judging.invariant.accepted insert is)

@@ -1,4 +1,4 @@
-use Rattle.std.proofs.Common.{arith, refl, ◌∙◌, ap}
+use Rattle.std.proofs.Common.{◌≡◌, pos, arith, refl}
 use Rattle.std.proofs.lemmas.Int.{ints}
 use Rattle.std.proofs.lemmas.Result.{err_from_is_err_and}
 use Rattle.mongo_exec.specs.Insert.{insert_of}
@@ -19,7 +19,7 @@ returns-in_err-judge_documents-clause-refused c =
     let insert = insert_of c.args.db.now c.args.collection.now c.args.ordered in
     let e = err_from_is_err_and c.from_residual-in_err-judge_documents.result c.from_residual-in_err-judge_documents.ensures.1 in
     let command = has_command d insert c.args.documents.now c.in_ok-command.command c.in_ok-judge_number.ensures.batches c.in_ok-command.ensures.command c.in_ok-bare.ensures.fits in
-    let room = has_room d insert c.args.documents.now c.in_ok-frame.frame command (c.in_ok-frame.ensures.frame ∙ c.frame_maximum.ensures) in
+    let room = has_room d insert c.args.documents.now c.in_ok-frame.frame command (omega (arith, ints, c.in_ok-frame.ensures.frame, c.frame_maximum.ensures)) in
     rw (e.1, e.2) (unaccepted_row d insert c.args.documents.now c.in_err-judge_documents.field-0.0 room
       (c.in_err-judge_documents.ensures.refused insert (bare_is insert c.in_ok-command.command c.in_ok-bare.bare c.in_ok-command.ensures.command c.in_ok-bare.ensures.size)))
 
@@ -28,7 +28,7 @@ overflow_sub-result c =
     let d = c.args.description.now in
     let insert = insert_of c.args.db.now c.args.collection.now c.args.ordered in
     let size = bare_is insert c.in_ok-command.command c.in_ok-bare.bare c.in_ok-command.ensures.command c.in_ok-bare.ensures.size in
-    bare_within d insert c.args.documents.now c.in_ok-bare.bare c.in_ok-frame.frame c.in_ok-judge_number.ensures.batches.some size (c.in_ok-frame.ensures.frame ∙ c.frame_maximum.ensures) (c.in_ok-judge_documents.ensures.accepted insert size)
+    bare_within d insert c.args.documents.now c.in_ok-bare.bare c.in_ok-frame.frame c.in_ok-judge_number.ensures.batches.some size (omega (arith, ints, c.in_ok-frame.ensures.frame, c.frame_maximum.ensures)) (c.in_ok-judge_documents.ensures.accepted insert size)
 
 pub returns-clause-plan : goal.returns-clause-plan
 returns-clause-plan c =
@@ -36,7 +36,7 @@ returns-clause-plan c =
     let insert = insert_of c.args.db.now c.args.collection.now c.args.ordered in
     let size = bare_is insert c.in_ok-command.command c.in_ok-bare.bare c.in_ok-command.ensures.command c.in_ok-bare.ensures.size in
     let command = has_command d insert c.args.documents.now c.in_ok-command.command c.in_ok-judge_number.ensures.batches c.in_ok-command.ensures.command c.in_ok-bare.ensures.fits in
-    let maximum = c.in_ok-frame.ensures.frame ∙ c.frame_maximum.ensures in
+    let maximum : pos c.in_ok-frame.frame ≡ d.max_message_size_bytes = omega (arith, ints, c.in_ok-frame.ensures.frame, c.frame_maximum.ensures) in
     plan_made d insert c.args.documents.now c.in_ok-command.command c.args.ordered c.batch_limit.result c.in_ok-bare.bare c.in_ok-frame.frame
       (has_room d insert c.args.documents.now c.in_ok-frame.frame command maximum) (c.in_ok-judge_documents.ensures.accepted insert size) c.in_ok-command.ensures.command refl
-      (c.batch_limit.ensures ∙ c.batch_maximum.ensures) size maximum (overflow_sub-result c)
+      (omega (arith, ints, c.batch_limit.ensures, c.batch_maximum.ensures)) size maximum (overflow_sub-result c)
