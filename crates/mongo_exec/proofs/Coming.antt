@@ -1,9 +1,10 @@
 -- How far an insert has come, batch after batch, and how it ends.
-use Rattle.std.proofs.Common.{◌≡◌, ◌⊎◌, ℕ, ◌+◌, ◌-◌, ◌<◌, ◌≤◌, ℤ, pos, ◌≤ℤ◌, min, Bool, true, None, Some, Ok, Err, List, [], ◌∷◌, ◌++◌, length, length-append, take, drop, map, inl, inr, refl, ap, sym, subst, ◌∙◌, append-nil, append_assoc, take-append-drop, flat_map, option_to_list, arith}
+use Rattle.std.proofs.Common.{◌≡◌, ◌⊎◌, ℕ, ◌+◌, ◌-◌, ◌<◌, ◌≤◌, ℤ, pos, ◌≤ℤ◌, min, Bool, true, false, ◌==◌, false≢true, None, Some, Ok, Err, List, [], ◌∷◌, ◌++◌, length, length-append, take, drop, map, inl, inr, refl, ap, sym, subst, ◌∙◌, append-nil, append_assoc, take-append-drop, flat_map, option_to_list, arith}
 use Rattle.std.specs.List.{All, AllByRecursion, sum_by}
 use Rattle.std.proofs.lemmas.Int.{ints}
 use Rattle.std.proofs.lemmas.List.{map-append, length-take}
 use Rattle.std.proofs.lemmas.List.Concat.{flat_map-append}
+use Rattle.std.proofs.lemmas.List.Sums.{sum_by-append}
 use Rattle.std.proofs.lemmas.List.Elements.{recursion_from_All, All-from_recursion, All-push}
 use Rattle.mongo_wire.specs.Outside.{State}
 use Rattle.mongo_wire.specs.Measure.{documents_bytes}
@@ -44,8 +45,7 @@ exchanged_more d insert [] a old middle new said e = (new, subst (λ p. Exchange
 exchanged_more d insert (x ∷ answered) a old middle new said e = (said.0, said.1, exchanged_more d insert answered a said.0 middle new said.2 e)
 
 sum_more : (f : Answered → ℕ) (answered : List Answered) (a : Answered) → sum_by f (answered ++ a ∷ []) ≡ sum_by f answered + f a
-sum_more f [] a = omega arith
-sum_more f (x ∷ answered) a = omega (arith, sum_more f answered a)
+sum_more f answered a = omega (arith, sum_by-append f answered (a ∷ []))
 
 errors_more : (place : ℕ) (answered : List Answered) (a : Answered) → errors_from place (answered ++ a ∷ []) ≡ errors_from place answered ++ map (shifted (place + many_in answered)) (errors_in a.said)
 errors_more place [] a =
@@ -54,7 +54,7 @@ errors_more place [] a =
 errors_more place (x ∷ answered) a =
     let front = map (shifted place) (errors_in x.said) in
     let next = place + length x.batch in
-    let same : next + many_in answered ≡ place + many_in (x ∷ answered) = omega arith in
+    let same : next + many_in answered ≡ place + many_in (x ∷ answered) = omega (arith, sum_by-append (λ (a : Answered). length a.batch) (x ∷ []) answered) in
     ap (λ l. front ++ l) (errors_more next answered a ∙ ap (λ p. errors_from next answered ++ map (shifted p) (errors_in a.said)) same)
     ∙ sym (append_assoc front (errors_from next answered) (map (shifted (place + many_in (x ∷ answered))) (errors_in a.said)))
 
@@ -115,6 +115,11 @@ first_batch d insert documents plan rest n is within few short greatest =
         omega (arith, most, many));
     }
 
+pub first_split : (d : StreamDescription) (insert : Insert) (documents : List (List ℕ)) (plan : Plan) (rest : List (List ℕ)) (n : ℕ) (batch more : List (List ℕ)) → IsPlan d insert documents plan → n ≤ length rest → n ≤ plan.most → length (documents_bytes (take n rest)) ≤ plan.room
+    → ((m : ℕ) → m ≤ length rest → m ≤ plan.most → length (documents_bytes (take m rest)) ≤ plan.room → m ≤ n) → batch ≡ take n rest → more ≡ drop n rest → IsFirstBatch d insert rest batch more
+first_split d insert documents plan rest n batch more is within few short greatest front back =
+    subst (λ b. IsFirstBatch d insert rest b more) (sym front) (subst (IsFirstBatch d insert rest (take n rest)) (sym back) (first_batch d insert documents plan rest n is within few short greatest))
+
 -- it isn't empty
 pub some_taken : (d : StreamDescription) (insert : Insert) (documents : List (List ℕ)) (plan : Plan) (rest : List (List ℕ)) (n : ℕ) → IsPlan d insert documents plan → 0 < length rest → All (IsAccepted d insert) rest
     → ((m : ℕ) → m ≤ length rest → m ≤ plan.most → length (documents_bytes (take m rest)) ≤ plan.room → m ≤ n) → 0 < n
@@ -125,6 +130,14 @@ some_taken d insert documents plan (document ∷ rest) n is some all greatest =
     let most : pos 1 ≤ℤ pos plan.most = subst (λ x. pos 1 ≤ℤ x) (sym is.most) is.sendable.room.command.batches.size in
     let least = greatest 1 (omega (arith, some)) (omega (arith, ints, most)) (omega (arith, ints, size, insert_size-more insert (document ∷ []))) in
     omega (arith, least)
+
+pub some_left : {X : Type 0} (xs : List X) → false ≡ (length xs == 0) → 0 < length xs
+some_left [] e = absurd (false≢true e)
+some_left (x ∷ xs) e = omega arith
+
+pub none_left : {X : Type 0} (xs : List X) → true ≡ (length xs == 0) → xs ≡ []
+none_left [] e = refl
+none_left (x ∷ xs) e = absurd (false≢true (sym e))
 
 -- ---- the loop
 
@@ -138,7 +151,7 @@ module _ {L : Type 0} (state : L → State) (d : StreamDescription) (insert : In
     behind = behind;
     accepted = is.sendable.each;
     place_is = refl;
-    left = refl;
+    left = omega arith;
     inserted = omega (arith, ap (λ (o : InsertOutcome). o.inserted) outcome);
     batches = omega (arith, ap (λ (o : InsertOutcome). o.batches) outcome);
     unkept = unkept;

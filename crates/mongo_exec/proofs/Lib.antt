@@ -5,3 +5,4 @@ pub mod Planning
 pub mod ReplyRows
 pub mod OneBatch
 pub mod Coming
+pub mod WholeInsert
