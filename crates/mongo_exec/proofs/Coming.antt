@@ -1,6 +1,9 @@
 -- How far an insert has come, batch after batch, and how it ends.
-use Rattle.std.proofs.Common.{◌≡◌, ◌⊎◌, ℕ, ◌+◌, ◌-◌, ◌<◌, ◌≤◌, ℤ, pos, ◌≤ℤ◌, min, Bool, true, false, ◌==◌, false≢true, None, Some, Ok, Err, List, [], ◌∷◌, ◌++◌, length, length-append, take, drop, map, inl, inr, refl, ap, sym, subst, ◌∙◌, append-nil, append_assoc, take-append-drop, flat_map, option_to_list, arith}
+use Rattle.std.proofs.Common.{◌≡◌, ◌⊎◌, ℕ, ◌+◌, ◌-◌, ◌<◌, ◌≤◌, ℤ, pos, ◌≤ℤ◌, min, Bool, true, false, ◌==◌, None, Some, Ok, Err, List, [], ◌∷◌, ◌++◌, length, length-append, take, drop, map, inl, inr, refl, ap, sym, subst, ◌∙◌, append-nil, append_assoc, take-append-drop, flat_map, option_to_list, arith}
 use Rattle.std.specs.List.{All, AllByRecursion, sum_by}
+use Rattle.std.proofs.lemmas.Bool.{false≢true}
+use Rattle.std.proofs.lemmas.List.{nil_from_length}
+use Rattle.std.proofs.lemmas.Bool.Decides.{Decides-eqb}
 use Rattle.std.proofs.lemmas.Int.{ints}
 use Rattle.std.proofs.lemmas.List.{map-append, length-take}
 use Rattle.std.proofs.lemmas.List.Concat.{flat_map-append}
@@ -136,8 +139,7 @@ some_left [] e = absurd (false≢true e)
 some_left (x ∷ xs) e = omega arith
 
 pub none_left : {X : Type 0} (xs : List X) → true ≡ (length xs == 0) → xs ≡ []
-none_left [] e = refl
-none_left (x ∷ xs) e = absurd (false≢true (sym e))
+none_left xs e = nil_from_length xs ((Decides-eqb (length xs) 0).0 (sym e))
 
 -- ---- the loop
 

@@ -6,16 +6,15 @@ use Rattle.mongo_wire.specs.declared.error.ErrorKind.{ErrorKind}
 use Rattle.mongo_wire.specs.declared.error.ErrorKind.TheVariants.{InvalidArgument, OutOfMemory}
 use Rattle.mongo_wire.specs.declared.fault.ArgumentFault.{ArgumentFault}
 use Rattle.mongo_wire.specs.declared.fault.ArgumentFault.TheVariants.{Bson, MaximumNegative, TooLong}
-use Rattle.mongo_wire.specs.Outside.{State, Unfailed}
-use Rattle.mongo_wire.specs.Bytes.{IsWholeWithin}
+use Rattle.mongo_wire.specs.Outside.{State}
 use Rattle.mongo_command.specs.Connection.{kept_fault, KeepsRest}
 use Rattle.mongo_command.specs.Exchange.{Point, point, CountsStay}
 use Rattle.mongo_command.specs.EndsExchange.{Footing}
 use Rattle.mongo_command.specs.declared.stream_description.StreamDescription.{StreamDescription}
 use Rattle.mongo_exec.specs.Insert.{Insert, insert_document, insert_size}
-use Rattle.mongo_exec.specs.Cut.{IsFirstBatch, IsCutTo}
+use Rattle.mongo_exec.specs.Cut.{IsFirstBatch}
 use Rattle.mongo_exec.specs.Outcome.{Answered, outcome_of, nothing_inserted, Stops, GoesTo}
-use Rattle.mongo_exec.specs.Batches.{Sent, BatchRefused, IsAnswered}
+use Rattle.mongo_exec.specs.Batches.{Sent, BatchRefused}
 use Rattle.mongo_exec.specs.declared.insert_outcome.InsertOutcome.{InsertOutcome}
 use Rattle.mongo_exec.specs.declared.exec_error.ExecError.{ExecError}
 use Rattle.mongo_exec.specs.declared.exec_error.ExecError.TheVariants.{NoDescription, NoDocuments, BatchSize, DocumentTooLong, Wire}
@@ -146,18 +145,6 @@ pub record Interrupted (description : StreamDescription) (insert : Insert) (docu
   pub error : fault.error ≡ Wire (record { kind = kind })
   pub refused : BatchRefused description insert batch kind middle new kept
 
--- Bytes that begin with the replies of a server that answers well: each is a frame within the maximum, and says of its batch
--- what can be said of it.
-pub record AnswersWell (description : StreamDescription) (insert : Insert) (documents : List (List ℕ)) (answered : List Answered) (bytes : List ℕ) : Type 0 where
-  pub rest : List (List ℕ)
-  pub cut : IsCutTo description insert documents (map (λ a. a.batch) answered) rest
-  pub replies : All IsAnswered answered
-  pub stop : GoesTo insert.ordered answered rest
-  pub heard : List ℕ
-  pub unread : List ℕ
-  pub joined : bytes ≡ heard ++ unread
-  pub heard_is : IsWholeWithin description.max_message_size_bytes description.max_message_size_bytes (map (λ a. a.reply) answered) heard
-
 abbrev pub at : {L : Type 0} → (L → State) → Footing L → Point
 at state place = point (state place.link) place.id
 
@@ -172,11 +159,3 @@ pub record EndsInsert {L : Type 0} (state : L → State) (insert : Insert) (docu
   -- nothing else of the connection changes, what the link tells stays told, and no count falls
   pub rest : KeepsRest old.connection new.connection
   pub counts : CountsStay (state old.link) (state new.link)
-
--- Where the server answers well and the link doesn't fail, the list is inserted to its end, or memory ran out.
-abbrev pub IsComplete : {L : Type 0} → (L → State) → Insert → List (List ℕ) → Result InsertOutcome InsertFault → Footing L → Footing L → Type 0
-IsComplete state insert documents result old new =
-    (description : StreamDescription) (answered : List Answered) (bytes : List ℕ) → described old ≡ Some description → kept_fault old.connection ≡ None
-    → IsSendable description insert documents → (state old.link).left ≡ Some bytes → AnswersWell description insert documents answered bytes
-    → Unfailed (state old.link) (state new.link)
-    → IfErr result (λ fault. IsMemory fault.error) × IfOk result (λ outcome. outcome ≡ outcome_of answered)

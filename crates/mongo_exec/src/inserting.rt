@@ -3,7 +3,7 @@ ghost use Rattle.mongo_command.specs.Connection.{kept_fault};
 ghost use Rattle.mongo_command.specs.EndsExchange.{footing};
 ghost use Rattle.mongo_command.specs.declared.stream_description.StreamDescription.{StreamDescription};
 ghost use Rattle.mongo_exec.specs.Insert.{insert_of};
-ghost use Rattle.mongo_exec.specs.InsertMany.{EndsInsert, IsComplete, BeginRefused};
+ghost use Rattle.mongo_exec.specs.InsertMany.{EndsInsert, BeginRefused};
 ghost use Rattle.mongo_exec.specs.Plan.{IsPlan};
 
 use crate::batches::insert_batches;
@@ -44,8 +44,6 @@ pub fn insert_many<L: Link>(
     // The frames are those of the documents' cut up to the stop, one reply was taken for each, and the outcome adds them up;
     // a refusal has its cause, and says what was done before it.
     ensures ends { EndsInsert L.state (insert_of db.now collection.now ordered) documents.now result (footing connection.old link.old ids.old) (footing connection.new link.new ids.new) }
-    // Where the server answers well, all is inserted, or memory ran out.
-    ensures complete { IsComplete L.state (insert_of db.now collection.now ordered) documents.now result (footing connection.old link.old ids.old) (footing connection.new link.new ids.new) }
 {
     let documents = documents.as_slice();
     match begun(alloc, connection, db, collection, documents, ordered) {
