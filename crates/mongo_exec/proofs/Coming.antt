@@ -1,11 +1,11 @@
 -- How far an insert has come, batch after batch, and how it ends.
-use Rattle.std.proofs.Common.{◌≡◌, ◌⊎◌, ℕ, ◌+◌, ◌-◌, ◌<◌, ◌≤◌, ℤ, pos, ◌≤ℤ◌, min, Bool, true, false, ◌==◌, None, Some, Ok, Err, List, [], ◌∷◌, ◌++◌, length, length-append, take, drop, map, inl, inr, refl, ap, sym, subst, ◌∙◌, append-nil, append_assoc, take-append-drop, flat_map, option_to_list, arith}
+use Rattle.std.proofs.Common.{◌≡◌, ℕ, ◌+◌, ◌<◌, ◌≤◌, pos, ◌≤ℤ◌, Bool, true, false, ◌==◌, None, Ok, Err, List, [], ◌∷◌, ◌++◌, length, length-append, take, drop, map, refl, ap, sym, subst, ◌∙◌, append-nil, append_assoc, take-append-drop, flat_map, option_to_list, arith}
 use Rattle.std.specs.List.{All, AllByRecursion, sum_by}
 use Rattle.std.proofs.lemmas.Bool.{false≢true}
 use Rattle.std.proofs.lemmas.List.{nil_from_length}
 use Rattle.std.proofs.lemmas.Bool.Decides.{Decides-eqb}
 use Rattle.std.proofs.lemmas.Int.{ints}
-use Rattle.std.proofs.lemmas.List.{map-append, length-take}
+use Rattle.std.proofs.lemmas.List.{length-take}
 use Rattle.std.proofs.lemmas.List.Concat.{flat_map-append}
 use Rattle.std.proofs.lemmas.List.Sums.{sum_by-append}
 use Rattle.std.proofs.lemmas.List.Elements.{recursion_from_All, All-from_recursion, All-push}
@@ -15,24 +15,23 @@ use Rattle.mongo_wire.specs.declared.error.Error.{Error}
 use Rattle.mongo_wire.specs.declared.write_error.IndexedWriteError.{IndexedWriteError}
 use Rattle.mongo_wire.specs.declared.write_error.WriteConcernError.{WriteConcernError}
 use Rattle.mongo_command.specs.Connection.{kept_fault}
-use Rattle.mongo_command.specs.Exchange.{Exchanges, Point, point}
+use Rattle.mongo_command.specs.Exchange.{Exchanges, Point}
 use Rattle.mongo_command.specs.EndsExchange.{Footing}
 use Rattle.mongo_command.specs.declared.stream_description.StreamDescription.{StreamDescription}
 use Rattle.mongo_command.proofs.Rest.{keeps_on}
 use Rattle.mongo_command.proofs.Talked.{counts_on}
 use Rattle.mongo_exec.specs.Insert.{Insert, insert_message, insert_size}
-use Rattle.mongo_exec.specs.Cut.{IsTaken, IsFirstBatch, IsCutTo}
+use Rattle.mongo_exec.specs.Cut.{IsFirstBatch, IsCutTo}
 use Rattle.mongo_exec.specs.Reply.{errors_in}
 use Rattle.mongo_exec.specs.Outcome.{Answered, outcome_of, errors_from, shifted, Stops, GoesTo}
-use Rattle.mongo_exec.specs.Batches.{AreExchanged, Sent, IsAnswered}
+use Rattle.mongo_exec.specs.Batches.{AreExchanged, IsAnswered}
 use Rattle.mongo_exec.specs.InsertMany.{IsAccepted, at}
 use Rattle.mongo_exec.specs.Told.{told_errors, told_concern, Tells, with_told, IsBehind}
 use Rattle.mongo_exec.specs.Plan.{IsPlan}
-use Rattle.mongo_exec.specs.Course.{Adds, EndsBatch, Come, EndsBatches, many_in}
+use Rattle.mongo_exec.specs.Course.{EndsBatch, Come, EndsBatches, many_in}
 use Rattle.mongo_exec.specs.declared.insert_reply.BatchReply.{BatchReply}
 use Rattle.mongo_exec.specs.declared.insert_outcome.InsertOutcome.{InsertOutcome}
 use Rattle.mongo_exec.specs.declared.exec_error.ExecError.TheVariants.{Wire}
-use Rattle.mongo_exec.specs.declared.exec_error.InsertFault.{InsertFault}
 use Rattle.mongo_exec.specs.declared.plan.Plan.{Plan}
 use Rattle.mongo_exec.specs.declared.tally.Tally.{Tally}
 use Rattle.mongo_exec.proofs.Sizes.{insert_size-more}
@@ -75,13 +74,13 @@ outcome_more answered a place told is tells =
     let front = errors_from 0 answered in
     let shift : place ≡ 0 + many_in answered = omega (arith, is) in
     same_outcome (sum_by count answered + told.count) (sum_by count (answered ++ a ∷ []))
-      (front ++ map (shifted place) (told_errors told)) (errors_from 0 (answered ++ a ∷ []))
-      (flat_map concern answered ++ option_to_list (told_concern told)) (flat_map concern (answered ++ a ∷ []))
-      (length answered + 1) (length (answered ++ a ∷ []))
-      (omega (arith, sum_more count answered a, tells.count))
-      (ap (λ l. front ++ map (shifted place) l) tells.errors ∙ ap (λ p. front ++ map (shifted p) (errors_in a.said)) shift ∙ sym (errors_more 0 answered a))
-      (ap (λ o. flat_map concern answered ++ option_to_list o) tells.concern ∙ ap (λ l. flat_map concern answered ++ l) (sym (append-nil (concern a))) ∙ sym (flat_map-append concern answered (a ∷ [])))
-      (omega (arith, length-append answered (a ∷ [])))
+    (front ++ map (shifted place) (told_errors told)) (errors_from 0 (answered ++ a ∷ []))
+    (flat_map concern answered ++ option_to_list (told_concern told)) (flat_map concern (answered ++ a ∷ []))
+    (length answered + 1) (length (answered ++ a ∷ []))
+    (omega (arith, sum_more count answered a, tells.count))
+    (ap (λ l. front ++ map (shifted place) l) tells.errors ∙ ap (λ p. front ++ map (shifted p) (errors_in a.said)) shift ∙ sym (errors_more 0 answered a))
+    (ap (λ o. flat_map concern answered ++ option_to_list o) tells.concern ∙ ap (λ l. flat_map concern answered ++ l) (sym (append-nil (concern a))) ∙ sym (flat_map-append concern answered (a ∷ [])))
+    (omega (arith, length-append answered (a ∷ [])))
 
 -- ---- the end of the list
 
@@ -111,11 +110,11 @@ first_batch d insert documents plan rest n is within few short greatest =
         short = subst (λ m. pos (insert_size insert (take n rest)) ≤ℤ m) is.room (omega (arith, ints, insert_size-more insert (take n rest), short));
       };
       greatest = λ m inside taken.
-        (let count : length (take m rest) ≡ m = omega (arith, length-take m rest, inside) in
-        let few_m : pos (length (take m rest)) ≤ℤ pos plan.most = subst (λ x. pos (length (take m rest)) ≤ℤ x) (sym is.most) taken.few in
-        let short_m : pos (insert_size insert (take m rest)) ≤ℤ pos (insert_size insert [] + plan.room) = subst (λ x. pos (insert_size insert (take m rest)) ≤ℤ x) (sym is.room) taken.short in
-        let most = greatest m inside (omega (arith, ints, few_m, count)) (omega (arith, ints, short_m, insert_size-more insert (take m rest))) in
-        omega (arith, most, many));
+          (let count : length (take m rest) ≡ m = omega (arith, length-take m rest, inside) in
+          let few_m : pos (length (take m rest)) ≤ℤ pos plan.most = subst (λ x. pos (length (take m rest)) ≤ℤ x) (sym is.most) taken.few in
+          let short_m : pos (insert_size insert (take m rest)) ≤ℤ pos (insert_size insert [] + plan.room) = subst (λ x. pos (insert_size insert (take m rest)) ≤ℤ x) (sym is.room) taken.short in
+          let most = greatest m inside (omega (arith, ints, few_m, count)) (omega (arith, ints, short_m, insert_size-more insert (take m rest))) in
+          omega (arith, most, many));
     }
 
 pub first_split : (d : StreamDescription) (insert : Insert) (documents : List (List ℕ)) (plan : Plan) (rest : List (List ℕ)) (n : ℕ) (batch more : List (List ℕ)) → IsPlan d insert documents plan → n ≤ length rest → n ≤ plan.most → length (documents_bytes (take n rest)) ≤ plan.room
@@ -144,7 +143,6 @@ none_left xs e = nil_from_length xs ((Decides-eqb (length xs) 0).0 (sym e))
 -- ---- the loop
 
 module _ {L : Type 0} (state : L → State) (d : StreamDescription) (insert : Insert) (documents : List (List ℕ)) (old : Footing L) where
-
   pub come_begun : (plan : Plan) (tally : Tally) → IsPlan d insert documents plan → kept_fault old.connection ≡ None → tally.outcome ≡ outcome_of [] → IsBehind tally → Come state d insert documents [] documents 0 tally old old
   come_begun plan tally is unkept outcome behind = record {
     sent = record { cut = refl; exchanged = refl; replies = All-from_recursion IsAnswered [] tt };

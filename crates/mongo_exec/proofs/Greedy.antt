@@ -1,5 +1,5 @@
 -- As many documents from the front as there is room for.
-use Rattle.std.proofs.Common.{◌≡◌, ◌⊎◌, ℕ, zero, suc, inl, inr, ◌+◌, ◌<◌, ◌≤◌, min, List, length, take, get_or, ap, ◌∙◌, sym, subst, arith}
+use Rattle.std.proofs.Common.{◌≡◌, ◌⊎◌, ℕ, zero, suc, inl, inr, ◌+◌, ◌<◌, ◌≤◌, List, length, take, get_or, ◌∙◌, sym, subst, arith}
 use Rattle.std.proofs.lemmas.List.{take-take, length-take, get_or-take}
 use Rattle.mongo_wire.specs.Measure.{documents_bytes}
 use Rattle.mongo_wire.proofs.Passed.{length_within}
@@ -21,6 +21,6 @@ le_or_lt (suc n) (suc i) = elim (le_or_lt n i) [ inl p ↦ inl (omega (arith, p)
 -- where a document has no room after those before it, no more than those have
 pub front_within : (documents : List (List ℕ)) (i n room : ℕ) (document : List ℕ) → n ≤ length documents → document ≡ get_or documents i document → room < length (documents_bytes (take i documents)) + length document → length (documents_bytes (take n documents)) ≤ room → n ≤ i
 front_within documents i n room document most at over short = elim (le_or_lt n i) [
-    inl within ↦ within
+  | inl within ↦ within
   | inr beyond ↦ absurd (omega (arith, over, short, within_front documents i n document beyond most at))
-  ]
+]

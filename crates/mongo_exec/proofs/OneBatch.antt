@@ -1,10 +1,9 @@
 -- How the insert of one batch ends, by how its exchange and the reading of its reply end.
-use Rattle.std.proofs.Common.{◌≡◌, ℕ, None, Some, Result, Ok, Err, List, length, inl, inr, refl, subst, sym, ap, ◌∙◌}
+use Rattle.std.proofs.Common.{◌≡◌, ℕ, None, Some, Ok, Err, List, length, inl, inr, refl, subst}
 use Rattle.mongo_wire.specs.Outside.{State}
 use Rattle.mongo_wire.specs.declared.error.Error.{Error}
-use Rattle.mongo_wire.specs.declared.error.ErrorKind.{ErrorKind}
 use Rattle.mongo_command.specs.Connection.{kept_fault}
-use Rattle.mongo_command.specs.Exchange.{Exchanges, ExchangeRefused, command_message, frame_maximum, point}
+use Rattle.mongo_command.specs.Exchange.{Exchanges, ExchangeRefused, command_message, frame_maximum}
 use Rattle.mongo_command.specs.EndsExchange.{EndsExchange, Footing}
 use Rattle.mongo_command.specs.Response.{reply_document}
 use Rattle.mongo_command.specs.declared.command.Command.{Command}
@@ -19,7 +18,6 @@ use Rattle.mongo_exec.specs.declared.insert_reply.BatchReply.{BatchReply}
 use Rattle.mongo_exec.specs.declared.tally.Tally.{Tally}
 
 module _ {L : Type 0} (state : L → State) (description : StreamDescription) (insert : Insert) (batch : List (List ℕ)) (place : ℕ) (before after : Tally) (old new : Footing L) (described : old.connection.stream_description ≡ Some description) (command : Command) (is : command ≡ insert_command insert batch) where
-
   -- the exchange of the command is that of the batch, by what the description says
   exchanged_as : (reply : List ℕ) → Exchanges (frame_maximum old.connection.stream_description) (command_message command) (at state old) (at state new) reply → Exchanges description.max_message_size_bytes (insert_message insert batch) (at state old) (at state new) reply
   exchanged_as reply e =
@@ -63,8 +61,11 @@ module _ {L : Type 0} (state : L → State) (description : StreamDescription) (i
   batch_unsent error unkept ends same =
       let cause = ends.refused unkept in record {
         added = tt;
-        refused = (inl (subst (λ c. ExchangeRefused error.kind description.max_message_size_bytes (command_message c) (at state old) (at state new) (kept_fault new.connection)) is
-          (subst (λ d. ExchangeRefused error.kind (frame_maximum d) (command_message command) (at state old) (at state new) (kept_fault new.connection)) described cause)), same);
+        refused = (
+          inl (subst (λ c. ExchangeRefused error.kind description.max_message_size_bytes (command_message c) (at state old) (at state new) (kept_fault new.connection)) is
+              (subst (λ d. ExchangeRefused error.kind (frame_maximum d) (command_message command) (at state old) (at state new) (kept_fault new.connection)) described cause)),
+          same,
+        );
         faultless = tt;
         rest = ends.rest;
         counts = ends.counts;

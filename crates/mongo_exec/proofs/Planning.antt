@@ -1,5 +1,5 @@
 -- Why an insert is refused before a byte is written, and why none of these rows applies to one that is planned.
-use Rattle.std.proofs.Common.{◌≡◌, ◌⊎◌, ℕ, ◌+◌, ◌-◌, ◌<◌, ◌≤◌, ℤ, pos, ◌<ℤ◌, ◌≤ℤ◌, Bool, Option, None, Some, List, [], ◌∷◌, ◌++◌, length, inl, inr, refl, ap, sym, subst, ◌∙◌, arith}
+use Rattle.std.proofs.Common.{◌≡◌, ◌⊎◌, ℕ, ◌-◌, ◌<◌, ◌≤◌, pos, ◌<ℤ◌, ◌≤ℤ◌, Bool, Option, Some, List, [], ◌∷◌, ◌++◌, length, inl, ap, sym, subst, ◌∙◌, arith}
 use Rattle.std.specs.List.{All, AllByRecursion}
 use Rattle.std.proofs.lemmas.Int.{ints}
 use Rattle.std.proofs.lemmas.List.Elements.{recursion_from_All}
@@ -12,12 +12,11 @@ use Rattle.mongo_command.specs.Command.{command_document}
 use Rattle.mongo_command.specs.Collection.{frame_size}
 use Rattle.mongo_command.specs.declared.command.Command.{Command}
 use Rattle.mongo_command.specs.declared.stream_description.StreamDescription.{StreamDescription}
-use Rattle.mongo_exec.specs.Insert.{Insert, bare_command, insert_document, insert_size, documents_sequence}
-use Rattle.mongo_exec.specs.InsertMany.{HasBatches, HasCommand, HasRoom, IsAccepted, IsSendable, IsFirstUnaccepted, IsTooLong, IsTooLongAlone, UnacceptedRow, WireRow, DescribedRow, EarlyRow, IsMemory, argument_error}
+use Rattle.mongo_exec.specs.Insert.{Insert, bare_command, insert_size, documents_sequence}
+use Rattle.mongo_exec.specs.InsertMany.{HasBatches, HasCommand, HasRoom, IsAccepted, IsSendable, IsFirstUnaccepted, UnacceptedRow, WireRow, DescribedRow, EarlyRow, IsMemory, argument_error}
 use Rattle.mongo_exec.specs.Plan.{IsPlan}
 use Rattle.mongo_exec.specs.declared.exec_error.ExecError.{ExecError}
 use Rattle.mongo_exec.specs.declared.exec_error.ExecError.TheVariants.{NoDescription, NoDocuments, BatchSize, DocumentTooLong, Wire}
-use Rattle.mongo_exec.specs.declared.plan.Plan.{Plan}
 use Rattle.mongo_exec.proofs.Sizes.{insert_size-one}
 
 pub has_command : (d : StreamDescription) (insert : Insert) (documents : List (List ℕ)) (command : Command) → HasBatches d documents → command ≡ bare_command insert → length (command_document command) ≤ maximum_length → HasCommand d insert documents

@@ -1,5 +1,5 @@
 -- Why a reply isn't read as that to an insert, row by row, and what one that is read says.
-use Rattle.std.proofs.Common.{◌≡◌, ◌⊎◌, ℕ, Option, None, Some, List, [], inl, inr, refl, subst, sym, option_and_then, unwrap_or, All}
+use Rattle.std.proofs.Common.{◌≡◌, ℕ, Option, None, Some, List, [], inl, inr, refl, subst, sym, option_and_then, unwrap_or, All}
 use Rattle.mongo_wire.specs.declared.error.ErrorKind.{ErrorKind}
 use Rattle.mongo_wire.specs.declared.error.ErrorKind.TheVariants.{InvalidResponse, OutOfMemory}
 use Rattle.mongo_wire.specs.declared.fault.ResponseFault.TheVariants.{Body}
@@ -9,8 +9,8 @@ use Rattle.mongo_wire.specs.declared.write_error.InsertManyError.{InsertManyErro
 use Rattle.mongo_command.specs.CommandReply.{IsCommandBody, CommandRefused}
 use Rattle.mongo_command.specs.Response.{CountIs, CountRefused}
 use Rattle.mongo_command.specs.WriteReply.{SaysOfWrite, insert_failure, WriteReplyRefused}
-use Rattle.mongo_exec.specs.Reply.{Said, IsInsertReply, IsPlaceIn, ReplyRefused, errors_in}
-use Rattle.mongo_exec.specs.Told.{told_errors, Tells, TellsOf}
+use Rattle.mongo_exec.specs.Reply.{Said, IsInsertReply, IsPlaceIn, ReplyRefused}
+use Rattle.mongo_exec.specs.Told.{Tells, TellsOf}
 use Rattle.mongo_exec.specs.declared.insert_reply.BatchReply.{BatchReply}
 
 pub command_refused : (kind : ErrorKind) (many : ℕ) (reply : List ℕ) → CommandRefused kind reply → ReplyRefused kind many reply

@@ -1,5 +1,5 @@
 -- How an insert of many documents ends, by how its planning and its batches end.
-use Rattle.std.proofs.Common.{◌≡◌, ℕ, ℤ, Option, None, Some, Result, Ok, Err, List, inl, inr, refl, arith}
+use Rattle.std.proofs.Common.{◌≡◌, ℕ, None, Some, Result, Ok, Err, List, inl, inr, refl, arith}
 use Rattle.mongo_wire.specs.Outside.{State}
 use Rattle.mongo_command.specs.Connection.{kept_fault}
 use Rattle.mongo_command.specs.EndsExchange.{Footing}
@@ -12,7 +12,6 @@ use Rattle.mongo_exec.specs.declared.exec_error.InsertFault.{InsertFault}
 use Rattle.mongo_exec.specs.declared.insert_outcome.InsertOutcome.{InsertOutcome}
 
 module _ {L : Type 0} (state : L → State) (insert : Insert) (documents : List (List ℕ)) (old : Footing L) where
-
   pub insert_ends : (d : StreamDescription) (result : Result InsertOutcome InsertFault) (new : Footing L) → described old ≡ Some d → kept_fault old.connection ≡ None → EndsBatches state d insert documents result old new → EndsInsert state insert documents result old new
   insert_ends d (Ok outcome) new is unkept ends = record { inserted = (d, is, ends.inserted); refused = tt; faultless = (unkept, ends.faultless); rest = ends.rest; counts = ends.counts }
   insert_ends d (Err fault) new is unkept ends = record { inserted = tt; refused = inr (d, is, unkept, ends.refused); faultless = tt; rest = ends.rest; counts = ends.counts }

@@ -1,5 +1,5 @@
 -- How a list of documents is cut into batches, by what the server takes at once.
-use Rattle.std.specs.Prelude.{◌≡◌, ℕ, ℤ, pos, ◌≤◌, ◌≤ℤ◌, List, [], ◌∷◌, ◌++◌, length, take}
+use Rattle.std.specs.Prelude.{◌≡◌, ℕ, pos, ◌≤◌, ◌≤ℤ◌, List, [], ◌∷◌, ◌++◌, length, take}
 use Rattle.mongo_command.specs.declared.stream_description.StreamDescription.{StreamDescription}
 use Rattle.mongo_exec.specs.Insert.{Insert, insert_size}
 

@@ -1,5 +1,5 @@
 -- The inserts' theorem: what an insert of many documents writes, takes and answers, and why it is refused.
-use Rattle.std.specs.Prelude.{◌≡◌, ◌⊎◌, ℕ, ℤ, pos, ◌<◌, ◌≤◌, ◌<ℤ◌, ◌≤ℤ◌, Option, None, Some, Result, List, [], ◌∷◌, ◌++◌, length, map, All, IfOk, IfErr, OnOk}
+use Rattle.std.specs.Prelude.{◌≡◌, ◌⊎◌, ℕ, pos, ◌<◌, ◌≤◌, ◌<ℤ◌, ◌≤ℤ◌, Option, None, Some, Result, List, [], ◌∷◌, ◌++◌, length, All, IfOk, IfErr, OnOk}
 use Rattle.mongo_bson.specs.Framed.{maximum_length}
 use Rattle.mongo_bson.specs.declared.fault.BsonFault.TheVariants.{TooLong as DocumentLimit}
 use Rattle.mongo_wire.specs.declared.error.ErrorKind.{ErrorKind}

@@ -1,6 +1,6 @@
 -- The reply to the insert of a batch: how many documents were inserted, which were refused, and whether the write concern
 -- was met.
-use Rattle.std.specs.Prelude.{◌≡◌, ℕ, ◌<◌, ◌≤◌, ◌⊎◌, List, [], length, unwrap_or, All, ⊤}
+use Rattle.std.specs.Prelude.{◌≡◌, ℕ, ◌<◌, ◌≤◌, ◌⊎◌, List, [], unwrap_or, All}
 use Rattle.mongo_wire.specs.declared.error.ErrorKind.{ErrorKind}
 use Rattle.mongo_wire.specs.declared.error.ErrorKind.TheVariants.{InvalidResponse, OutOfMemory}
 use Rattle.mongo_wire.specs.declared.fault.ResponseFault.TheVariants.{Body}

@@ -25,10 +25,7 @@ pub(crate) fn batch_length(documents: &[RawDocumentBuf], most: usize, room: usiz
 }
 
 // Copies of the documents.
-pub(crate) fn copies_of(
-    alloc: Global,
-    documents: &[RawDocumentBuf],
-) -> Result<Documents, BsonFault>
+pub(crate) fn copies_of(alloc: Global, documents: &[RawDocumentBuf]) -> Result<Documents, BsonFault>
     ensures copied { IfOk result (λ copies. copies ≡ documents.now) }
     ensures refused { IfErr result (λ fault. fault ≡ BsonFault.OutOfMemory) }
 {

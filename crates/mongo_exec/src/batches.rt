@@ -38,7 +38,16 @@ pub(crate) fn insert_batches<L: Link>(
     let mut place: u32 = 0;
     'batches: while !rest.is_empty() {
         let (batch, more) = rest.split_at(batch_length(rest, plan.most, plan.room));
-        match insert_batch(alloc, connection, link, ids, &plan.command, batch, place, &mut tally) {
+        match insert_batch(
+            alloc,
+            connection,
+            link,
+            ids,
+            &plan.command,
+            batch,
+            place,
+            &mut tally,
+        ) {
             Ok(told) => {
                 if stops(plan.ordered, &told) {
                     return Ok(tally.into_outcome());

@@ -95,9 +95,11 @@ fn refused_writes(
 {
     match response.validate_insert_many(alloc) {
         Ok(()) => Ok(None),
-        Err(Error {
-            kind: ErrorKind::InsertMany(refused),
-        }) => Ok(Some(refused)),
+        Err(
+            Error {
+                kind: ErrorKind::InsertMany(refused),
+            },
+        ) => Ok(Some(refused)),
         Err(error) => Err(error),
     }
 }

@@ -6,16 +6,15 @@
 //! refused writes.
 //!
 //! Proved: the frames written are those of the cut, up to the stop, with one reply taken for each, and the outcome is what the
-//! replies say, with each refused write at its place in the list. What is refused before the first byte leaves the link
-//! untouched; a later refusal says what was done before it. A server that answers well is inserted into to the end, unless
-//! memory runs out. `specs/Cut.antt` and `specs/InsertMany.antt` say so.
+//! replies say, with each refused write at its place in the list. A refusal has its cause, in the order in which the causes are
+//! tested: one before the first byte leaves the link untouched, and a later one says what was done before it.
+//! `specs/Cut.antt` and `specs/InsertMany.antt` say so.
 #![tactic(auto)]
 
 mod batch;
 mod batches;
 mod exec_error;
 mod insert_command;
-
 mod insert_outcome;
 mod insert_reply;
 mod inserting;
@@ -23,5 +22,5 @@ mod plan;
 mod tally;
 
 pub use exec_error::{ExecError, InsertFault};
-pub use inserting::insert_many;
 pub use insert_outcome::{InsertOutcome, WriteConcernErrors};
+pub use inserting::insert_many;

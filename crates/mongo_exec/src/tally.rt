@@ -2,8 +2,8 @@ ghost use Rattle.std.specs.Prelude.{◌≡◌, ◌+◌, ◌++◌, ◌<◌, ◌^�
 ghost use Rattle.mongo_exec.specs.Outcome.{nothing_inserted, shifted};
 ghost use Rattle.mongo_exec.specs.Told.{told_errors, with_told, HasRoomToShift, IsFrontOf, IsBehind};
 
-use crate::{InsertOutcome, WriteConcernErrors};
 use crate::insert_reply::BatchReply;
+use crate::{InsertOutcome, WriteConcernErrors};
 use mongo_bson::BsonFault;
 use mongo_wire::{IndexedWriteError, WriteConcernError, WriteErrors};
 use std::alloc::Global;

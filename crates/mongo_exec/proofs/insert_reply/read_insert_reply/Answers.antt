@@ -1,4 +1,3 @@
-use Rattle.std.proofs.Common.{IsTrue, refl, sym, ◌∙◌}
 use Rattle.std.proofs.lemmas.Result.{err_from_is_err_and}
 use Rattle.mongo_exec.proofs.ReplyRows.{command_refused, reply_read, reply_other}
 use Rattle.mongo_exec.proofs.insert_reply.read_insert_reply.Goals as goal

@@ -11,5 +11,7 @@ returns-in-Ok g c =
     let insert = insert_of c.args.db.now c.args.collection.now c.args.ordered in
     let old = footing c.args.connection.now c.args.link.now c.args.ids.now in
     let new = footing c.insert_batches.new.connection c.insert_batches.new.link c.insert_batches.new.ids in
-    record { ends = subst (λ documents. EndsInsert g.L.Outside.state insert documents c.insert_batches.result old new) c.as_slice-documents.ensures
-    (insert_ends g.L.Outside.state insert c.as_slice-documents.result.now old d c.insert_batches.result new described c.in-Ok.ensures.unkept (c.insert_batches.ensures.ends d insert described plan)) }
+    record {
+      ends = subst (λ documents. EndsInsert g.L.Outside.state insert documents c.insert_batches.result old new) c.as_slice-documents.ensures
+          (insert_ends g.L.Outside.state insert c.as_slice-documents.result.now old d c.insert_batches.result new described c.in-Ok.ensures.unkept (c.insert_batches.ensures.ends d insert described plan));
+    }

@@ -21,7 +21,7 @@ returns-in_err-judge_documents-clause-refused c =
     let command = has_command d insert c.args.documents.now c.in_ok-command.command c.in_ok-judge_number.ensures.batches c.in_ok-command.ensures.command c.in_ok-bare.ensures.fits in
     let room = has_room d insert c.args.documents.now c.in_ok-frame.frame command (omega (arith, ints, c.in_ok-frame.ensures.frame, c.frame_maximum.ensures)) in
     rw (e.1, e.2) (unaccepted_row d insert c.args.documents.now c.in_err-judge_documents.field-0.0 room
-      (c.in_err-judge_documents.ensures.refused insert (bare_is insert c.in_ok-command.command c.in_ok-bare.bare c.in_ok-command.ensures.command c.in_ok-bare.ensures.size)))
+    (c.in_err-judge_documents.ensures.refused insert (bare_is insert c.in_ok-command.command c.in_ok-bare.bare c.in_ok-command.ensures.command c.in_ok-bare.ensures.size)))
 
 pub overflow_sub-result : goal.overflow_sub-result
 overflow_sub-result c =
@@ -38,5 +38,5 @@ returns-clause-plan c =
     let command = has_command d insert c.args.documents.now c.in_ok-command.command c.in_ok-judge_number.ensures.batches c.in_ok-command.ensures.command c.in_ok-bare.ensures.fits in
     let maximum : pos c.in_ok-frame.frame ≡ d.max_message_size_bytes = omega (arith, ints, c.in_ok-frame.ensures.frame, c.frame_maximum.ensures) in
     plan_made d insert c.args.documents.now c.in_ok-command.command c.args.ordered c.batch_limit.result c.in_ok-bare.bare c.in_ok-frame.frame
-      (has_room d insert c.args.documents.now c.in_ok-frame.frame command maximum) (c.in_ok-judge_documents.ensures.accepted insert size) c.in_ok-command.ensures.command refl
-      (omega (arith, ints, c.batch_limit.ensures, c.batch_maximum.ensures)) size maximum (overflow_sub-result c)
+    (has_room d insert c.args.documents.now c.in_ok-frame.frame command maximum) (c.in_ok-judge_documents.ensures.accepted insert size) c.in_ok-command.ensures.command refl
+    (omega (arith, ints, c.batch_limit.ensures, c.batch_maximum.ensures)) size maximum (overflow_sub-result c)
