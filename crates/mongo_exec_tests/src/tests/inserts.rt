@@ -1,13 +1,10 @@
 use super::job::Job;
 use super::rows::{RowCheck, check_rows, parts, wants_whole};
-use mongo_exec::{ExecError, InsertOutcome};
-use mongo_wire::{ErrorKind, FailingLink, Sink, Source};
+use super::seen::seen;
 use std::alloc::Global;
 use std::test::Fail;
 
-const INSERTS: &str = "count=2 docs=12,12,12 reply=18000000016f6b00000000000000f03f106e000200000000 reply=18000000016f6b00000000000000f03f106e000100000000 => inserted 3";
-
-// What is seen of an insert after it, as a text.
+// What is seen of an insert after it.
 #[derive(Clone, Copy)]
 struct Seen;
 
@@ -15,15 +12,191 @@ impl RowCheck for Seen {
     fn check(self, alloc: Global, row: &str) -> Result<(), Fail> {
         let (words, wanted) = parts(row);
         let made = Job::of_words(alloc, words)?.make(alloc, 1_000_000)?;
-        let told = match &made.answer {
-            Ok(outcome) => format!(in alloc; "{outcome:?} {:?}", made.link.written())?,
-            Err(fault) => format!(in alloc; "{fault:?}")?,
-        };
-        wants_whole(row, wanted, told)
+        wants_whole(row, wanted, seen(alloc, &made)?)
     }
 }
 
+// All that is written, in hex, to a link that takes a byte at a time.
+#[derive(Clone, Copy)]
+struct Written;
+
+impl RowCheck for Written {
+    fn check(self, alloc: Global, row: &str) -> Result<(), Fail> {
+        let (words, wanted) = parts(row);
+        let made = Job::of_words(alloc, words)?.make(alloc, 1)?;
+        wants_whole(row, wanted, hex::encode(alloc, made.link.written())?)
+    }
+}
+
+// What is seen of an insert, and of a second one over the same connection where it keeps a fault: that one answers the same
+// fault and has done nothing.
+#[derive(Clone, Copy)]
+struct SeenTwice;
+
+impl RowCheck for SeenTwice {
+    fn check(self, alloc: Global, row: &str) -> Result<(), Fail> {
+        let (words, wanted) = parts(row);
+        let mut made = Job::of_words(alloc, words)?.make(alloc, 1_000_000)?;
+        wants_whole(row, wanted, seen(alloc, &made)?)?;
+        if made.connection.fault().is_none() {
+            return Ok(());
+        }
+        made.repeat(alloc)?;
+        let (_done, end) = wanted.split_once(" concerns ").unwrap_or(("", wanted));
+        let nothing = format!(in alloc; "inserted 0 batches 0 errors concerns {end}")?;
+        wants_whole(row, nothing.as_str(), seen(alloc, &made)?)
+    }
+}
+
+// The worked inserts: three documents `{a: 1}` two at a time, a write error that ends an ordered insert and not an
+// unordered one, and no documents.
+const WORKED: &str =
+    "count=2 doc=0c0000001061000100000000 doc=0c0000001061000100000000 doc=0c0000001061000100000000 reply=18000000016f6b00000000000000f03f106e000200000000 reply=18000000016f6b00000000000000f03f106e000100000000 => inserted 3 batches 2 errors concerns done written 188 left 0 next 3
+count=2 doc=0c0000001061000100000000 doc=0c0000001061000100000000 doc=0c0000001061000100000000 reply=55000000016f6b00000000000000f03f106e00010000000477726974654572726f727300300000000330002800000010696e646578000100000010636f646500f82a0000026572726d736700020000006400000000 => inserted 1 batches 1 errors 1:11000 concerns done written 100 left 0 next 2
+count=2 unordered doc=0c0000001061000100000000 doc=0c0000001061000100000000 doc=0c0000001061000100000000 reply=55000000016f6b00000000000000f03f106e00010000000477726974654572726f727300300000000330002800000010696e646578000100000010636f646500f82a0000026572726d736700020000006400000000 reply=18000000016f6b00000000000000f03f106e000100000000 => inserted 2 batches 2 errors 1:11000 concerns done written 188 left 0 next 3
+count=2 => inserted 0 batches 0 errors concerns NoDocuments written 0 left 0 next 1";
+
+// What they write.
+const WORKED_FRAMES: &str =
+    "count=2 doc=0c0000001061000100000000 doc=0c0000001061000100000000 doc=0c0000001061000100000000 reply=18000000016f6b00000000000000f03f106e000200000000 reply=18000000016f6b00000000000000f03f106e000100000000 => 640000000100000000000000dd07000000000000002800000002696e7365727400020000006300086f72646572656400010224646200020000006400000126000000646f63756d656e7473000c00000010610001000000000c0000001061000100000000580000000200000000000000dd07000000000000002800000002696e7365727400020000006300086f7264657265640001022464620002000000640000011a000000646f63756d656e7473000c0000001061000100000000
+count=2 doc=0c0000001061000100000000 doc=0c0000001061000100000000 doc=0c0000001061000100000000 reply=55000000016f6b00000000000000f03f106e00010000000477726974654572726f727300300000000330002800000010696e646578000100000010636f646500f82a0000026572726d736700020000006400000000 => 640000000100000000000000dd07000000000000002800000002696e7365727400020000006300086f72646572656400010224646200020000006400000126000000646f63756d656e7473000c00000010610001000000000c0000001061000100000000
+count=2 unordered doc=0c0000001061000100000000 doc=0c0000001061000100000000 doc=0c0000001061000100000000 reply=55000000016f6b00000000000000f03f106e00010000000477726974654572726f727300300000000330002800000010696e646578000100000010636f646500f82a0000026572726d736700020000006400000000 reply=18000000016f6b00000000000000f03f106e000100000000 => 640000000100000000000000dd07000000000000002800000002696e7365727400020000006300086f72646572656400000224646200020000006400000126000000646f63756d656e7473000c00000010610001000000000c0000001061000100000000580000000200000000000000dd07000000000000002800000002696e7365727400020000006300086f7264657265640000022464620002000000640000011a000000646f63756d656e7473000c0000001061000100000000
+count=2 => ";
+
 #[test]
-fn inserts_in_batches(rt: HostRuntime) -> Result<(), Fail> {
-    check_rows(rt.alloc(), Seen, INSERTS)
+fn the_worked_inserts(rt: HostRuntime) -> Result<(), Fail> {
+    check_rows(rt.alloc(), Seen, WORKED)?;
+    check_rows(rt.alloc(), Written, WORKED_FRAMES)
+}
+
+// Limits of count and of size, at what is needed, one past it and one below. A frame has 76 bytes beside its documents.
+const BATCHES: &str =
+    "count=2 docs=12,12,12 reply=18000000016f6b00000000000000f03f106e000200000000 reply=18000000016f6b00000000000000f03f106e000100000000 => inserted 3 batches 2 errors concerns done written 188 left 0 next 3
+count=3 docs=12,12,12 reply=18000000016f6b00000000000000f03f106e000300000000 => inserted 3 batches 1 errors concerns done written 112 left 0 next 2
+count=4 docs=12,12,12 reply=18000000016f6b00000000000000f03f106e000300000000 => inserted 3 batches 1 errors concerns done written 112 left 0 next 2
+count=1 docs=12,12,12 reply=18000000016f6b00000000000000f03f106e000100000000 reply=18000000016f6b00000000000000f03f106e000100000000 reply=18000000016f6b00000000000000f03f106e000000000000 => inserted 2 batches 3 errors concerns done written 264 left 0 next 4
+count=2 docs=12,12,12 first=2147483647 reply=18000000016f6b00000000000000f03f106e000200000000 reply=18000000016f6b00000000000000f03f106e000100000000 => inserted 3 batches 2 errors concerns done written 188 left 0 next -2147483647
+frame=112 docs=12,12,12 reply=18000000016f6b00000000000000f03f106e000300000000 => inserted 3 batches 1 errors concerns done written 112 left 0 next 2
+frame=111 docs=12,12,12 reply=18000000016f6b00000000000000f03f106e000200000000 reply=18000000016f6b00000000000000f03f106e000100000000 => inserted 3 batches 2 errors concerns done written 188 left 0 next 3
+frame=100 docs=12,12,12 reply=18000000016f6b00000000000000f03f106e000200000000 reply=18000000016f6b00000000000000f03f106e000100000000 => inserted 3 batches 2 errors concerns done written 188 left 0 next 3
+frame=99 docs=12,12,12 reply=18000000016f6b00000000000000f03f106e000100000000 reply=18000000016f6b00000000000000f03f106e000100000000 reply=18000000016f6b00000000000000f03f106e000100000000 => inserted 3 batches 3 errors concerns done written 264 left 0 next 4
+frame=88 docs=12,12 reply=18000000016f6b00000000000000f03f106e000100000000 reply=18000000016f6b00000000000000f03f106e000100000000 => inserted 2 batches 2 errors concerns done written 176 left 0 next 3
+frame=101 docs=12,13,5,5,5 reply=18000000016f6b00000000000000f03f106e000200000000 reply=18000000016f6b00000000000000f03f106e000300000000 => inserted 5 batches 2 errors concerns done written 192 left 0 next 3
+frame=100 docs=12,13,5,5,5 reply=18000000016f6b00000000000000f03f106e000100000000 reply=18000000016f6b00000000000000f03f106e000300000000 reply=18000000016f6b00000000000000f03f106e000100000000 => inserted 5 batches 3 errors concerns done written 268 left 0 next 4
+count=2 frame=101 docs=12,13,5,5,5 reply=18000000016f6b00000000000000f03f106e000200000000 reply=18000000016f6b00000000000000f03f106e000200000000 reply=18000000016f6b00000000000000f03f106e000100000000 => inserted 5 batches 3 errors concerns done written 268 left 0 next 4";
+
+#[test]
+fn batches_are_as_great_as_the_limits_allow(rt: HostRuntime) -> Result<(), Fail> {
+    check_rows(rt.alloc(), Seen, BATCHES)
+}
+
+// Refused writes, by their places in the whole list, and write concerns that weren't met.
+const WRITE_ERRORS: &str =
+    "count=2 docs=12,12,12 reply=47000000016f6b00000000000000f03f106e00010000000477726974654572726f727300220000000330001a00000010696e646578000100000010636f646500f82a0000000000 reply=18000000016f6b00000000000000f03f106e000100000000 => inserted 1 batches 1 errors 1:11000 concerns done written 100 left 45 next 2
+count=2 unordered docs=12,12,12 reply=47000000016f6b00000000000000f03f106e00010000000477726974654572726f727300220000000330001a00000010696e646578000100000010636f646500f82a0000000000 reply=18000000016f6b00000000000000f03f106e000100000000 => inserted 2 batches 2 errors 1:11000 concerns done written 188 left 0 next 3
+count=2 unordered docs=12,12,12,12 reply=47000000016f6b00000000000000f03f106e00010000000477726974654572726f727300220000000330001a00000010696e646578000100000010636f646500f82a0000000000 reply=47000000016f6b00000000000000f03f106e00010000000477726974654572726f727300220000000330001a00000010696e646578000000000010636f64650007000000000000 => inserted 2 batches 2 errors 1:11000 2:7 concerns done written 200 left 0 next 3
+count=2 unordered docs=5,5,5,5,5,5,5 reply=64000000016f6b00000000000000f03f106e00000000000477726974654572726f7273003f0000000330001a00000010696e646578000000000010636f64650001000000000331001a00000010696e646578000100000010636f64650002000000000000 reply=18000000016f6b00000000000000f03f106e000200000000 reply=47000000016f6b00000000000000f03f106e00010000000477726974654572726f727300220000000330001a00000010696e646578000100000010636f64650003000000000000 reply=47000000016f6b00000000000000f03f106e00000000000477726974654572726f727300220000000330001a00000010696e646578000000000010636f64650004000000000000 => inserted 3 batches 4 errors 0:1 1:2 5:3 6:4 concerns done written 339 left 0 next 5
+count=2 docs=12,12,12 reply=2a000000016f6b00000000000000f03f106e00020000000477726974654572726f727300050000000000 reply=18000000016f6b00000000000000f03f106e000100000000 => inserted 3 batches 2 errors concerns done written 188 left 0 next 3
+count=1 docs=12,12 reply=3a000000016f6b00000000000000f03f106e0001000000037772697465436f6e6365726e4572726f72000f00000010636f646500400000000000 reply=3a000000016f6b00000000000000f03f106e0001000000037772697465436f6e6365726e4572726f72000f00000010636f646500410000000000 => inserted 2 batches 2 errors concerns 64 65 done written 176 left 0 next 3
+count=1 docs=12,12,12 reply=3a000000016f6b00000000000000f03f106e0001000000037772697465436f6e6365726e4572726f72000f00000010636f646500400000000000 reply=69000000016f6b00000000000000f03f106e00000000000477726974654572726f727300220000000330001a00000010696e646578000000000010636f646500090000000000037772697465436f6e6365726e4572726f72000f00000010636f646500410000000000 reply=18000000016f6b00000000000000f03f106e000100000000 => inserted 1 batches 2 errors 1:9 concerns 64 65 done written 176 left 45 next 3
+count=2 docs=12,12 reply=47000000016f6b00000000000000f03f106e00000000000477726974654572726f727300220000000330001a00000010696e646578000100000010636f64650009000000000000 => inserted 0 batches 1 errors 1:9 concerns done written 100 left 0 next 2";
+
+#[test]
+fn replies_add_up(rt: HostRuntime) -> Result<(), Fail> {
+    check_rows(rt.alloc(), Seen, WRITE_ERRORS)
+}
+
+// What is refused before a byte is written, in the order of the refusals.
+const EARLY: &str =
+    "docs=12 reply=18000000016f6b00000000000000f03f106e000100000000 => inserted 0 batches 0 errors concerns NoDescription written 0 left 45 next 1
+ reply=18000000016f6b00000000000000f03f106e000100000000 => inserted 0 batches 0 errors concerns NoDescription written 0 left 45 next 1
+count=1 reply=18000000016f6b00000000000000f03f106e000100000000 => inserted 0 batches 0 errors concerns NoDocuments written 0 left 45 next 1
+count=0 frame=-1 reply=18000000016f6b00000000000000f03f106e000100000000 => inserted 0 batches 0 errors concerns NoDocuments written 0 left 45 next 1
+count=0 docs=12 reply=18000000016f6b00000000000000f03f106e000100000000 => inserted 0 batches 0 errors concerns BatchSize written 0 left 45 next 1
+count=-1 docs=12 reply=18000000016f6b00000000000000f03f106e000100000000 => inserted 0 batches 0 errors concerns BatchSize written 0 left 45 next 1
+count=0 frame=-1 docs=12 reply=18000000016f6b00000000000000f03f106e000100000000 => inserted 0 batches 0 errors concerns BatchSize written 0 left 45 next 1
+count=-9223372036854775808 docs=12 reply=18000000016f6b00000000000000f03f106e000100000000 => inserted 0 batches 0 errors concerns BatchSize written 0 left 45 next 1
+frame=-1 docs=12 reply=18000000016f6b00000000000000f03f106e000100000000 => inserted 0 batches 0 errors concerns Wire(Error { kind: InvalidArgument(MaximumNegative) }) written 0 left 45 next 1
+frame=-1 object=1 docs=12 reply=18000000016f6b00000000000000f03f106e000100000000 => inserted 0 batches 0 errors concerns Wire(Error { kind: InvalidArgument(MaximumNegative) }) written 0 left 45 next 1
+object=11 docs=12 reply=18000000016f6b00000000000000f03f106e000100000000 => inserted 0 batches 0 errors concerns DocumentTooLong(0) written 0 left 45 next 1
+object=12 docs=12,13 reply=18000000016f6b00000000000000f03f106e000100000000 => inserted 0 batches 0 errors concerns DocumentTooLong(1) written 0 left 45 next 1
+object=-1 docs=5 reply=18000000016f6b00000000000000f03f106e000100000000 => inserted 0 batches 0 errors concerns DocumentTooLong(0) written 0 left 45 next 1
+object=12 frame=88 docs=12,13 reply=18000000016f6b00000000000000f03f106e000100000000 => inserted 0 batches 0 errors concerns DocumentTooLong(1) written 0 left 45 next 1
+object=12 frame=88 docs=12,12,13,14 reply=18000000016f6b00000000000000f03f106e000100000000 => inserted 0 batches 0 errors concerns DocumentTooLong(2) written 0 left 45 next 1
+object=13 frame=88 docs=13,14 reply=18000000016f6b00000000000000f03f106e000100000000 => inserted 0 batches 0 errors concerns Wire(Error { kind: InvalidArgument(TooLong) }) written 0 left 45 next 1
+object=13 frame=88 docs=12,14,13 reply=18000000016f6b00000000000000f03f106e000100000000 => inserted 0 batches 0 errors concerns DocumentTooLong(1) written 0 left 45 next 1
+frame=87 docs=12 reply=18000000016f6b00000000000000f03f106e000100000000 => inserted 0 batches 0 errors concerns Wire(Error { kind: InvalidArgument(TooLong) }) written 0 left 45 next 1
+frame=0 docs=5 reply=18000000016f6b00000000000000f03f106e000100000000 => inserted 0 batches 0 errors concerns Wire(Error { kind: InvalidArgument(TooLong) }) written 0 left 45 next 1
+frame=80 docs=5 reply=18000000016f6b00000000000000f03f106e000100000000 => inserted 0 batches 0 errors concerns Wire(Error { kind: InvalidArgument(TooLong) }) written 0 left 45 next 1
+frame=81 docs=5 reply=18000000016f6b00000000000000f03f106e000100000000 => inserted 1 batches 1 errors concerns done written 81 left 0 next 2
+object=12 docs=12 reply=18000000016f6b00000000000000f03f106e000100000000 => inserted 1 batches 1 errors concerns done written 88 left 0 next 2";
+
+#[test]
+fn refusals_before_the_first_byte(rt: HostRuntime) -> Result<(), Fail> {
+    check_rows(rt.alloc(), Seen, EARLY)
+}
+
+// Replies that aren't those to an insert, to the first batch and to the second.
+const REPLIES: &str =
+    r#"count=2 docs=12,12,12 reply=18000000016f6b00000000000000f03f106e000300000000 reply=18000000016f6b00000000000000f03f106e000100000000 => inserted 0 batches 0 errors concerns Wire(Error { kind: InvalidResponse(Body) }) written 100 left 45 next 2
+count=1 docs=12,12,12 reply=18000000016f6b00000000000000f03f106e000100000000 reply=18000000016f6b00000000000000f03f106e000300000000 reply=18000000016f6b00000000000000f03f106e000100000000 => inserted 1 batches 1 errors concerns Wire(Error { kind: InvalidResponse(Body) }) written 176 left 45 next 3
+count=2 docs=12,12,12 reply=47000000016f6b00000000000000f03f106e00020000000477726974654572726f727300220000000330001a00000010696e646578000200000010636f64650001000000000000 reply=18000000016f6b00000000000000f03f106e000100000000 => inserted 0 batches 0 errors concerns Wire(Error { kind: InvalidResponse(Body) }) written 100 left 45 next 2
+count=1 docs=12,12,12 reply=18000000016f6b00000000000000f03f106e000100000000 reply=47000000016f6b00000000000000f03f106e00020000000477726974654572726f727300220000000330001a00000010696e646578000200000010636f64650001000000000000 reply=18000000016f6b00000000000000f03f106e000100000000 => inserted 1 batches 1 errors concerns Wire(Error { kind: InvalidResponse(Body) }) written 176 left 45 next 3
+count=2 docs=12,12,12 reply=64000000016f6b00000000000000f03f106e00010000000477726974654572726f7273003f0000000330001a00000010696e646578000000000010636f64650001000000000331001a00000010696e646578000500000010636f64650001000000000000 reply=18000000016f6b00000000000000f03f106e000100000000 => inserted 0 batches 0 errors concerns Wire(Error { kind: InvalidResponse(Body) }) written 100 left 45 next 2
+count=1 docs=12,12,12 reply=18000000016f6b00000000000000f03f106e000100000000 reply=64000000016f6b00000000000000f03f106e00010000000477726974654572726f7273003f0000000330001a00000010696e646578000000000010636f64650001000000000331001a00000010696e646578000500000010636f64650001000000000000 reply=18000000016f6b00000000000000f03f106e000100000000 => inserted 1 batches 1 errors concerns Wire(Error { kind: InvalidResponse(Body) }) written 176 left 45 next 3
+count=2 docs=12,12,12 reply=18000000016f6b00000000000000f03f106e00ffffffff00 reply=18000000016f6b00000000000000f03f106e000100000000 => inserted 0 batches 0 errors concerns Wire(Error { kind: InvalidResponse(NNotNumber) }) written 100 left 45 next 2
+count=1 docs=12,12,12 reply=18000000016f6b00000000000000f03f106e000100000000 reply=18000000016f6b00000000000000f03f106e00ffffffff00 reply=18000000016f6b00000000000000f03f106e000100000000 => inserted 1 batches 1 errors concerns Wire(Error { kind: InvalidResponse(NNotNumber) }) written 176 left 45 next 3
+count=2 docs=12,12,12 reply=11000000016f6b00000000000000f03f00 reply=18000000016f6b00000000000000f03f106e000100000000 => inserted 0 batches 0 errors concerns Wire(Error { kind: InvalidResponse(NoN) }) written 100 left 45 next 2
+count=1 docs=12,12,12 reply=18000000016f6b00000000000000f03f106e000100000000 reply=11000000016f6b00000000000000f03f00 reply=18000000016f6b00000000000000f03f106e000100000000 => inserted 1 batches 1 errors concerns Wire(Error { kind: InvalidResponse(NoN) }) written 176 left 45 next 3
+count=2 docs=12,12,12 reply=40000000016f6b00000000000000f03f0477726974654572726f727300220000000330001a00000010696e646578000000000010636f64650001000000000000 reply=18000000016f6b00000000000000f03f106e000100000000 => inserted 0 batches 0 errors concerns Wire(Error { kind: InvalidResponse(NoN) }) written 100 left 45 next 2
+count=1 docs=12,12,12 reply=18000000016f6b00000000000000f03f106e000100000000 reply=40000000016f6b00000000000000f03f0477726974654572726f727300220000000330001a00000010696e646578000000000010636f64650001000000000000 reply=18000000016f6b00000000000000f03f106e000100000000 => inserted 1 batches 1 errors concerns Wire(Error { kind: InvalidResponse(NoN) }) written 176 left 45 next 3
+count=2 docs=12,12,12 reply=1c000000016f6b00000000000000f03f016e00000000000000f83f00 reply=18000000016f6b00000000000000f03f106e000100000000 => inserted 0 batches 0 errors concerns Wire(Error { kind: InvalidResponse(NNotNumber) }) written 100 left 45 next 2
+count=1 docs=12,12,12 reply=18000000016f6b00000000000000f03f106e000100000000 reply=1c000000016f6b00000000000000f03f016e00000000000000f83f00 reply=18000000016f6b00000000000000f03f106e000100000000 => inserted 1 batches 1 errors concerns Wire(Error { kind: InvalidResponse(NNotNumber) }) written 176 left 45 next 3
+count=2 docs=12,12,12 reply=29000000016f6b00000000000000f03f106e00010000001077726974654572726f7273000100000000 reply=18000000016f6b00000000000000f03f106e000100000000 => inserted 0 batches 0 errors concerns Wire(Error { kind: InvalidResponse(Body) }) written 100 left 45 next 2
+count=1 docs=12,12,12 reply=18000000016f6b00000000000000f03f106e000100000000 reply=29000000016f6b00000000000000f03f106e00010000001077726974654572726f7273000100000000 reply=18000000016f6b00000000000000f03f106e000100000000 => inserted 1 batches 1 errors concerns Wire(Error { kind: InvalidResponse(Body) }) written 176 left 45 next 3
+count=2 docs=12,12,12 reply=2f000000016f6b00000000000000f03f106e0001000000107772697465436f6e6365726e4572726f72000100000000 reply=18000000016f6b00000000000000f03f106e000100000000 => inserted 0 batches 0 errors concerns Wire(Error { kind: InvalidResponse(Body) }) written 100 left 45 next 2
+count=1 docs=12,12,12 reply=18000000016f6b00000000000000f03f106e000100000000 reply=2f000000016f6b00000000000000f03f106e0001000000107772697465436f6e6365726e4572726f72000100000000 reply=18000000016f6b00000000000000f03f106e000100000000 => inserted 1 batches 1 errors concerns Wire(Error { kind: InvalidResponse(Body) }) written 176 left 45 next 3
+count=2 docs=12,12,12 reply=18000000016f6b000000000000000000106e000100000000 reply=18000000016f6b00000000000000f03f106e000100000000 => inserted 0 batches 0 errors concerns Wire(Error { kind: InvalidResponse(Body) }) written 100 left 45 next 2
+count=1 docs=12,12,12 reply=18000000016f6b00000000000000f03f106e000100000000 reply=18000000016f6b000000000000000000106e000100000000 reply=18000000016f6b00000000000000f03f106e000100000000 => inserted 1 batches 1 errors concerns Wire(Error { kind: InvalidResponse(Body) }) written 176 left 45 next 3
+count=2 docs=12,12,12 reply=1f000000016f6b00000000000000f03f106e0001000000106e000100000000 reply=18000000016f6b00000000000000f03f106e000100000000 => inserted 0 batches 0 errors concerns Wire(Error { kind: InvalidResponse(Body) }) written 100 left 45 next 2
+count=1 docs=12,12,12 reply=18000000016f6b00000000000000f03f106e000100000000 reply=1f000000016f6b00000000000000f03f106e0001000000106e000100000000 reply=18000000016f6b00000000000000f03f106e000100000000 => inserted 1 batches 1 errors concerns Wire(Error { kind: InvalidResponse(Body) }) written 176 left 45 next 3
+count=2 docs=12,12,12 reply=0c000000106e000100000000 reply=18000000016f6b00000000000000f03f106e000100000000 => inserted 0 batches 0 errors concerns Wire(Error { kind: InvalidResponse(Body) }) written 100 left 45 next 2
+count=1 docs=12,12,12 reply=18000000016f6b00000000000000f03f106e000100000000 reply=0c000000106e000100000000 reply=18000000016f6b00000000000000f03f106e000100000000 => inserted 1 batches 1 errors concerns Wire(Error { kind: InvalidResponse(Body) }) written 176 left 45 next 3
+count=2 docs=12,12,12 reply=62000000016f6b000000000000000000106e00090000000477726974654572726f727300220000000330001a00000010696e646578000900000010636f64650001000000000010636f6465001a000000026572726d73670005000000676f6e650000 reply=18000000016f6b00000000000000f03f106e000100000000 => inserted 0 batches 0 errors concerns Wire(Error { kind: Command(CommandError { code: 26, code_name: Text { text: "" }, message: Text { text: "gone" }, labels: Items { held: [] } }) }) written 100 left 45 next 2
+count=1 docs=12,12,12 reply=18000000016f6b00000000000000f03f106e000100000000 reply=62000000016f6b000000000000000000106e00090000000477726974654572726f727300220000000330001a00000010696e646578000900000010636f64650001000000000010636f6465001a000000026572726d73670005000000676f6e650000 reply=18000000016f6b00000000000000f03f106e000100000000 => inserted 1 batches 1 errors concerns Wire(Error { kind: Command(CommandError { code: 26, code_name: Text { text: "" }, message: Text { text: "gone" }, labels: Items { held: [] } }) }) written 176 left 45 next 3
+count=1 docs=12,12 reply=18000000016f6b00000000000000f03f106e000100000000 => inserted 1 batches 1 errors concerns Wire(Error { kind: EndOfInput }) written 176 left 0 next 3
+count=1 docs=12,12 => inserted 0 batches 0 errors concerns Wire(Error { kind: EndOfInput }) written 88 left 0 next 2"#;
+
+#[test]
+fn a_refused_reply_leaves_what_was_done(rt: HostRuntime) -> Result<(), Fail> {
+    check_rows(rt.alloc(), Seen, REPLIES)
+}
+
+// Each call of the link failing in turn: seven writes, a flush and two reads a batch.
+const FAILING: &str =
+    "count=1 docs=12,12 fails=0 reply=18000000016f6b00000000000000f03f106e000100000000 reply=18000000016f6b00000000000000f03f106e000100000000 => inserted 0 batches 0 errors concerns Wire(Error { kind: WriteFault }) written 0 left 90 next 2
+count=1 docs=12,12 fails=1 reply=18000000016f6b00000000000000f03f106e000100000000 reply=18000000016f6b00000000000000f03f106e000100000000 => inserted 0 batches 0 errors concerns Wire(Error { kind: WriteFault }) written 16 left 90 next 2
+count=1 docs=12,12 fails=2 reply=18000000016f6b00000000000000f03f106e000100000000 reply=18000000016f6b00000000000000f03f106e000100000000 => inserted 0 batches 0 errors concerns Wire(Error { kind: WriteFault }) written 21 left 90 next 2
+count=1 docs=12,12 fails=3 reply=18000000016f6b00000000000000f03f106e000100000000 reply=18000000016f6b00000000000000f03f106e000100000000 => inserted 0 batches 0 errors concerns Wire(Error { kind: WriteFault }) written 61 left 90 next 2
+count=1 docs=12,12 fails=4 reply=18000000016f6b00000000000000f03f106e000100000000 reply=18000000016f6b00000000000000f03f106e000100000000 => inserted 0 batches 0 errors concerns Wire(Error { kind: WriteFault }) written 66 left 90 next 2
+count=1 docs=12,12 fails=5 reply=18000000016f6b00000000000000f03f106e000100000000 reply=18000000016f6b00000000000000f03f106e000100000000 => inserted 0 batches 0 errors concerns Wire(Error { kind: WriteFault }) written 75 left 90 next 2
+count=1 docs=12,12 fails=6 reply=18000000016f6b00000000000000f03f106e000100000000 reply=18000000016f6b00000000000000f03f106e000100000000 => inserted 0 batches 0 errors concerns Wire(Error { kind: WriteFault }) written 76 left 90 next 2
+count=1 docs=12,12 fails=7 reply=18000000016f6b00000000000000f03f106e000100000000 reply=18000000016f6b00000000000000f03f106e000100000000 => inserted 0 batches 0 errors concerns Wire(Error { kind: WriteFault }) written 88 left 90 next 2
+count=1 docs=12,12 fails=8 reply=18000000016f6b00000000000000f03f106e000100000000 reply=18000000016f6b00000000000000f03f106e000100000000 => inserted 0 batches 0 errors concerns Wire(Error { kind: ReadFault }) written 88 left 90 next 2
+count=1 docs=12,12 fails=9 reply=18000000016f6b00000000000000f03f106e000100000000 reply=18000000016f6b00000000000000f03f106e000100000000 => inserted 0 batches 0 errors concerns Wire(Error { kind: ReadFault }) written 88 left 74 next 2
+count=1 docs=12,12 fails=10 reply=18000000016f6b00000000000000f03f106e000100000000 reply=18000000016f6b00000000000000f03f106e000100000000 => inserted 1 batches 1 errors concerns Wire(Error { kind: WriteFault }) written 88 left 45 next 3
+count=1 docs=12,12 fails=11 reply=18000000016f6b00000000000000f03f106e000100000000 reply=18000000016f6b00000000000000f03f106e000100000000 => inserted 1 batches 1 errors concerns Wire(Error { kind: WriteFault }) written 104 left 45 next 3
+count=1 docs=12,12 fails=12 reply=18000000016f6b00000000000000f03f106e000100000000 reply=18000000016f6b00000000000000f03f106e000100000000 => inserted 1 batches 1 errors concerns Wire(Error { kind: WriteFault }) written 109 left 45 next 3
+count=1 docs=12,12 fails=13 reply=18000000016f6b00000000000000f03f106e000100000000 reply=18000000016f6b00000000000000f03f106e000100000000 => inserted 1 batches 1 errors concerns Wire(Error { kind: WriteFault }) written 149 left 45 next 3
+count=1 docs=12,12 fails=14 reply=18000000016f6b00000000000000f03f106e000100000000 reply=18000000016f6b00000000000000f03f106e000100000000 => inserted 1 batches 1 errors concerns Wire(Error { kind: WriteFault }) written 154 left 45 next 3
+count=1 docs=12,12 fails=15 reply=18000000016f6b00000000000000f03f106e000100000000 reply=18000000016f6b00000000000000f03f106e000100000000 => inserted 1 batches 1 errors concerns Wire(Error { kind: WriteFault }) written 163 left 45 next 3
+count=1 docs=12,12 fails=16 reply=18000000016f6b00000000000000f03f106e000100000000 reply=18000000016f6b00000000000000f03f106e000100000000 => inserted 1 batches 1 errors concerns Wire(Error { kind: WriteFault }) written 164 left 45 next 3
+count=1 docs=12,12 fails=17 reply=18000000016f6b00000000000000f03f106e000100000000 reply=18000000016f6b00000000000000f03f106e000100000000 => inserted 1 batches 1 errors concerns Wire(Error { kind: WriteFault }) written 176 left 45 next 3
+count=1 docs=12,12 fails=18 reply=18000000016f6b00000000000000f03f106e000100000000 reply=18000000016f6b00000000000000f03f106e000100000000 => inserted 1 batches 1 errors concerns Wire(Error { kind: ReadFault }) written 176 left 45 next 3
+count=1 docs=12,12 fails=19 reply=18000000016f6b00000000000000f03f106e000100000000 reply=18000000016f6b00000000000000f03f106e000100000000 => inserted 1 batches 1 errors concerns Wire(Error { kind: ReadFault }) written 176 left 29 next 3
+count=1 docs=12,12 fails=20 reply=18000000016f6b00000000000000f03f106e000100000000 reply=18000000016f6b00000000000000f03f106e000100000000 => inserted 2 batches 2 errors concerns done written 176 left 0 next 3";
+
+#[test]
+fn each_call_of_the_link_fails(rt: HostRuntime) -> Result<(), Fail> {
+    check_rows(rt.alloc(), SeenTwice, FAILING)
 }

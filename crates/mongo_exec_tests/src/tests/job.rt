@@ -1,8 +1,8 @@
 // An insert as a row of a table writes it.
 //
 // A row's words are KEY=VALUE: `count`, `object` and `frame` are the server's limits, and without them the connection has no
-// description; `docs` are the documents' sizes, apart by commas, where a document of a size is its length and zeros; `reply` is
-// a reply's document in hex; `fails` is the number of the link's call that fails; `first` is the first id. `unordered` stands
+// description; `docs` are the documents' sizes, apart by commas, where a document of a size is its length and zeros; `doc` is a
+// document and `reply` a reply's document, in hex; `fails` is the number of the link's call that fails; `first` is the first id. `unordered` stands
 // alone.
 use mongo_bson::{Bytes, Documents, RawDocumentBuf, Text};
 use mongo_command::{Connection, ServerAddress, ServerType, StreamDescription};
@@ -41,6 +41,25 @@ pub(crate) struct Made {
     pub(crate) ids: RequestIds,
 }
 
+impl Made {
+    // Inserts a document more over the same connection.
+    pub(crate) fn repeat(&mut self, alloc: Global) -> Result<(), Fail> {
+        let mut documents = Documents::new(alloc);
+        documents.push(document(alloc, 5)?)?;
+        self.answer = insert_many(
+            alloc,
+            &mut self.connection,
+            &mut self.link,
+            &mut self.ids,
+            "d",
+            "c",
+            &documents,
+            true,
+        );
+        Ok(())
+    }
+}
+
 impl Job {
     // The insert of a row's words.
     pub(crate) fn of_words(alloc: Global, words: &str) -> Result<Job, Fail> {
@@ -69,6 +88,7 @@ impl Job {
             "object" => self.object = limit(&mut self.described, value)?,
             "frame" => self.frame = i32::try_from(limit(&mut self.described, value)?)?,
             "docs" => push_documents(alloc, &mut self.documents, value)?,
+            "doc" => self.documents.push(spelled(alloc, value)?)?,
             "unordered" => self.ordered = false,
             "reply" => push_reply(alloc, &mut self.replies, value)?,
             "fails" => self.failing = failing_call(alloc, u32::from_str_radix(value, 10)?)?,
@@ -161,6 +181,11 @@ fn document(alloc: Global, size: u32) -> Result<RawDocumentBuf, Fail> {
         bytes.extend_from_slice(&[0])?;
     }
     Ok(RawDocumentBuf::from_bytes(bytes)?)
+}
+
+// A document in hex.
+fn spelled(alloc: Global, document: &str) -> Result<RawDocumentBuf, Fail> {
+    Ok(RawDocumentBuf::from_bytes(Bytes::from_vec(hex::decode(alloc, document)?))?)
 }
 
 // Puts the frame of a document at the end of the replies.
