@@ -234,10 +234,10 @@ module _ {L : Type 0} (state : L → State) (d : StreamDescription) (insert : In
       }
 
   pub come_refused : (plan : Plan) (answered : List Answered) (rest batch more : List (List ℕ)) (place : ℕ) (before after : Tally) (middle new : Footing L) (error : Error) → IsPlan d insert documents plan
-      → Come state d insert documents answered rest place before old middle → IsFirstBatch d insert rest batch more
+      → Come state d insert documents answered rest place before old middle → IsFirstBatch d insert rest batch more → 0 < length rest
       → EndsBatch state d insert batch place (Err error) before after middle new
       → EndsBatches state d insert documents (Err (record { error = Wire error; done = after.outcome })) old new
-  come_refused plan answered rest batch more place before after middle new error is come first ends = record {
+  come_refused plan answered rest batch more place before after middle new error is come first some ends = record {
     inserted = tt;
     refused = record {
       sendable = is.sendable;
@@ -247,6 +247,7 @@ module _ {L : Type 0} (state : L → State) (d : StreamDescription) (insert : In
       sent = come.sent;
       on = come.on;
       done = ends.refused.1 ∙ come.outcome;
+      left = some;
       batch = batch;
       more = more;
       next = first;

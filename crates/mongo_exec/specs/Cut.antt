@@ -14,11 +14,7 @@ pub record IsFirstBatch (description : StreamDescription) (insert : Insert) (doc
   pub taken : IsTaken description insert batch
   pub greatest : (n : ℕ) → n ≤ length documents → IsTaken description insert (take n documents) → n ≤ length batch
 
--- the batches are the first of the documents' cut, and the rest is what follows them
+-- The batches are the first of the documents' cut, and the rest is what follows them; where nothing does, they are all of it.
 abbrev pub IsCutTo : StreamDescription → Insert → List (List ℕ) → List (List (List ℕ)) → List (List ℕ) → Type 0
 IsCutTo description insert documents [] rest = documents ≡ rest
 IsCutTo description insert documents (batch ∷ batches) rest = (more : List (List ℕ)) × IsFirstBatch description insert documents batch more × IsCutTo description insert more batches rest
-
--- the whole cut
-abbrev pub IsCut : StreamDescription → Insert → List (List ℕ) → List (List (List ℕ)) → Type 0
-IsCut description insert documents batches = IsCutTo description insert documents batches []

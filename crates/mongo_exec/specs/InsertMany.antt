@@ -138,6 +138,7 @@ pub record Interrupted (description : StreamDescription) (insert : Insert) (docu
   pub sent : Sent description insert documents answered rest old middle
   pub on : All (λ a. Stops insert.ordered a → ⊥) answered
   pub done : fault.done ≡ outcome_of answered
+  pub left : 0 < length rest
   pub batch : List (List ℕ)
   pub more : List (List ℕ)
   pub next : IsFirstBatch description insert rest batch more

@@ -4,6 +4,8 @@
 // description; `docs` are the documents' sizes, apart by commas, where a document of a size is its length and zeros; `doc` is a
 // document and `reply` a reply's document, in hex; `fails` is the number of the link's call that fails; `first` is the first id. `unordered` stands
 // alone.
+ghost use Rattle.std.specs.Prelude.{◌<◌};
+
 use mongo_bson::{Bytes, Documents, RawDocumentBuf, Text};
 use mongo_command::{Connection, ServerAddress, ServerType, StreamDescription};
 use mongo_exec::{InsertFault, InsertOutcome, insert_many};

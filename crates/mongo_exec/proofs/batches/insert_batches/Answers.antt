@@ -25,7 +25,7 @@ returns-in-Err g c = record {
       let first = first_split d insert c.args.documents.now c.args.plan.now c.batches.rest.now c.batch_length.result c.split_at.result.0.now c.split_at.result.1.now plan c.batch_length.ensures.within c.batch_length.ensures.few c.batch_length.ensures.short c.batch_length.ensures.greatest c.split_at.ensures.front c.split_at.ensures.back in
       let ends = c.in-Err.ensures.ends d insert (come.1.keeps.description ∙ described) plan.command in
       rw (c.into_outcome-in-Err.ensures) (come_refused g.L.Outside.state d insert c.args.documents.now (footing c.args.connection.now c.args.link.now c.args.ids.now) c.args.plan.now come.0 c.batches.rest.now c.split_at.result.0.now c.split_at.result.1.now c.batches.place c.batches.tally c.insert_batch.new.tally
-      (footing c.batches.connection c.batches.link c.batches.ids) (footing c.insert_batch.new.connection c.insert_batch.new.link c.insert_batch.new.ids) c.in-Err.error plan come.1 first ends));
+      (footing c.batches.connection c.batches.link c.batches.ids) (footing c.insert_batch.new.connection c.insert_batch.new.link c.insert_batch.new.ids) c.in-Err.error plan come.1 first (some_left c.batches.rest.now c.batches-test.ensures) ends));
 }
 
 pub batches-smaller : goal.batches-smaller
