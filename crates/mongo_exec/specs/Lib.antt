@@ -1,0 +1,9 @@
+pub mod Insert
+pub mod Cut
+pub mod Reply
+pub mod Outcome
+pub mod Batches
+pub mod InsertMany
+pub mod Told
+pub mod Plan
+pub mod Course

@@ -1,0 +1,4 @@
+mod inserts;
+mod job;
+mod rows;
+mod seen;
