@@ -113,6 +113,9 @@ impl Job {
             first_id,
             ..
         } = self;
+        if documents.len() > 1_000 {
+            return Err(Fail::new(format_args!("too many documents")));
+        }
         let mut link = FailingLink::new(alloc, replies, failing, most);
         let mut ids = RequestIds::new(first_id);
         let answer = insert_many(
