@@ -1,0 +1,107 @@
+// The server's first message as a document.
+
+ghost use Rattle.std.specs.Prelude.{◌≡◌, List, Option, Result, IfOk, IfErr, MatchResult};
+ghost use Rattle.mongo_bson.specs.Document.{Element, IsDocument, IsReadable, maximum_depth};
+ghost use Rattle.mongo_bson.specs.Value.{IsValue};
+ghost use Rattle.mongo_command.specs.Field.{Required, ReadsText, field_of};
+ghost use Rattle.mongo_command.specs.Fields.{IsValueOf, Answers, AreFields};
+ghost use Rattle.mongo_aws.specs.ServerMessage.{has_foreign_element, is_message_key};
+
+use crate::keys::{SERVER_NONCE, STS_HOST};
+use mongo_bson::{RawDocument, RawValue};
+use mongo_command::{FieldFault, Fields};
+use mongo_sasl::refused;
+use mongo_wire::{AuthFault, Error, ErrorKind};
+use std::alloc::Global;
+
+/// What the message says, borrowed from it.
+#[derive(Clone, Copy, Drop)]
+pub(crate) struct ServerMessage<'a> {
+    /// The server's nonce.
+    pub server_nonce: &'a [u8],
+    /// The host of STS.
+    pub sts_host: &'a str,
+}
+
+/// Reads a message: a well-formed document of just `s`, a binary of any subtype, and `h`, a text.
+///
+/// `Malformed` where it is none.
+pub(crate) fn read_message(alloc: Global, payload: &[u8]) -> Result<ServerMessage<'_>, Error> {
+    let Ok(document) = RawDocument::from_bytes(payload) else {
+        return Err(refused(AuthFault::Malformed));
+    };
+    match Fields::of_well_formed(alloc, document) {
+        Ok(fields) => match table_of(document, &fields) {
+            Ok(message) => Ok(message),
+            Err(fault) => Err(unread(fault)),
+        },
+        Err(fault) => Err(unread(fault)),
+    }
+}
+
+// The table of a message's fields.
+fn table_of<'a>(
+    document: RawDocument<'a>,
+    fields: &Fields<'a>,
+) -> Result<ServerMessage<'a>, FieldFault> {
+    if has_foreign_element(document) {
+        return Err(FieldFault::Unreadable);
+    }
+    let server_nonce = binary(fields.value(SERVER_NONCE))?;
+    let sts_host = text(fields.value(STS_HOST))?;
+    Ok(ServerMessage {
+        server_nonce,
+        sts_host,
+    })
+}
+
+// Whether a document has an element that a message doesn't have.
+fn has_foreign_element(document: RawDocument<'_>) -> bool
+    requires { IsReadable maximum_depth document.bytes.now }
+    ensures { (elements : List Element) → IsDocument document.entry.bytes.now elements → result ≡ has_foreign_element elements }
+{
+    for item in document.iter() {
+        match item {
+            Ok((key, _value)) => {
+                if !is_message_key(key) {
+                    return true;
+                }
+            }
+            Err(_) => unreachable!(),
+        }
+    }
+    false
+}
+
+// Whether a message has an element of this key.
+fn is_message_key(key: &str) -> bool
+    ensures { result ≡ is_message_key key.now }
+{
+    key == SERVER_NONCE || key == STS_HOST
+}
+
+// The bytes of a binary that has to be there.
+fn binary(value: Option<RawValue<'_>>) -> Result<&[u8], FieldFault> {
+    match value {
+        Some(RawValue::Binary(_subtype, bytes)) => Ok(bytes),
+        _ => Err(FieldFault::Unreadable),
+    }
+}
+
+// A text that has to be there.
+fn text(value: Option<RawValue<'_>>) -> Result<&str, FieldFault> {
+    match value {
+        Some(RawValue::Str(text)) => Ok(text),
+        _ => Err(FieldFault::Unreadable),
+    }
+}
+
+// What a message that isn't read is refused as.
+fn unread(fault: FieldFault) -> Error {
+    match fault {
+        FieldFault::Unreadable => refused(AuthFault::Malformed),
+        FieldFault::OutOfMemory => Error {
+            kind: ErrorKind::OutOfMemory,
+        },
+    }
+}
