@@ -58,12 +58,12 @@ fn check_signable(credentials: &AwsCredentials, host: &str) -> Result<(), Error>
 }
 
 // The message of a date and of the base64 text of the server's nonce.
-fn signed_payload(
+fn signed_payload<'x>(
     alloc: Global,
-    credentials: &AwsCredentials,
-    date: &str,
-    host: &str,
-    nonce: &str,
+    credentials: &'x AwsCredentials,
+    date: &'x str,
+    host: &'x str,
+    nonce: &'x str,
 ) -> Result<RawDocumentBuf, Error> {
     let token = match &credentials.session_token {
         Some(token) => Some(token.as_str()),
