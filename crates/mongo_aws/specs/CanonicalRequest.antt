@@ -1,11 +1,11 @@
 -- The request to STS that a client signs, by AWS Signature Version 4, "Create a canonical request". The server sends it to STS,
 -- which tells it by the signature who the client is.
-use Rattle.std.specs.Prelude.{ℕ, Option, None, Some, List, [], ◌∷◌, ◌++◌, length, map, flat_map, codes}
+use Rattle.std.specs.Prelude.{ℕ, Option, None, Some, List, [], ◌∷◌, ◌++◌, length, map, flat_map, option_copied, codes}
 use Rattle.std.specs.Fmt.{decimal}
 use Rattle.std.specs.List.{join_with_byte}
 use Rattle.hex.specs.Hex.{encode_lower}
 use Rattle.mongo_mac.specs.Digests.{sha256}
-use Rattle.mongo_aws.specs.Base64.{base64_of}
+use Rattle.mongo_aws.specs.declared.canonical_request.Request.{Request}
 
 pub record Header : Type 0 where
   pub name : List ℕ
@@ -23,17 +23,21 @@ abbrev pub token_headers : Option (List ℕ) → List Header
 token_headers None = []
 token_headers (Some token) = header (codes "x-amz-security-token") token ∷ []
 
--- the headers in the order of their names, all of which are signed
+-- the headers in the order of their names, all of which are signed; the nonce is a text of base64
 abbrev pub request_headers : Option (List ℕ) → List ℕ → List ℕ → List ℕ → List Header
-request_headers token date host server_nonce =
+request_headers token date host nonce_text =
     header (codes "content-length") (decimal (length request_body))
     ∷ header (codes "content-type") (codes "application/x-www-form-urlencoded")
     ∷ header (codes "host") host
     ∷ header (codes "x-amz-date") date
     ∷ (token_headers token
     ++ header (codes "x-mongodb-gs2-cb-flag") (codes "n")
-    ∷ header (codes "x-mongodb-server-nonce") (base64_of server_nonce)
+    ∷ header (codes "x-mongodb-server-nonce") nonce_text
     ∷ [])
+
+-- the same of what a request is made of
+abbrev pub headers_in : Request → List Header
+headers_in request = request_headers (option_copied request.token) request.date.now request.host.now request.nonce.now
 
 -- a header's line
 abbrev pub header_line : Header → List ℕ

@@ -1,5 +1,6 @@
 -- The date of a signature: the second of a moment, in UTC, in the basic format of ISO 8601.
-use Rattle.std.specs.Prelude.{◌≡◌, ℕ, ◌+◌, ◌*◌, ◌/◌, ◌%◌, ◌<◌, ℤ, pos, ◌+ℤ◌, ◌*ℤ◌, ◌≤ℤ◌, ◌<ℤ◌, List, [], ◌∷◌, ◌++◌, codes, take}
+use Rattle.std.specs.Prelude.{◌≡◌, ℕ, ◌+◌, ◌*◌, ◌/◌, ◌%◌, ◌<◌, ℤ, pos, ◌+ℤ◌, ◌*ℤ◌, ◌≤ℤ◌, ◌<ℤ◌, List, [], ◌∷◌, ◌++◌, codes, take, unsigned_abs}
+use Rattle.jiff_core.specs.declared.civil.datetime.DateTime.{DateTime}
 use Rattle.jiff_core.specs.Calendar.{days_from_civil, IsCivilDate}
 
 -- a second of the proleptic Gregorian calendar
@@ -52,6 +53,17 @@ pub record IsDateOf (moment : ℤ) (date : List ℕ) : Type 0 where
   pub civil : CivilSecond
   pub within : IsWithinSecond moment civil
   pub text : date ≡ date_text civil
+
+-- what a clock shows, to the second
+abbrev pub civil_of : DateTime → CivilSecond
+civil_of shown = record {
+  year = unsigned_abs shown.date.year;
+  month = shown.date.month;
+  day = shown.date.day;
+  hour = shown.time.hour;
+  minute = shown.time.minute;
+  second = shown.time.second;
+}
 
 -- the day of a date: its first eight characters
 abbrev pub day_of : List ℕ → List ℕ

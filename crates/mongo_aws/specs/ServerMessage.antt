@@ -2,6 +2,7 @@
 use Rattle.std.specs.Prelude.{◌≡◌, ℕ, ◌||◌, Bool, false, not, List, [], ◌∷◌, drop, bytes_eq}
 use Rattle.mongo_bson.specs.Document.{Element, IsWellFormed}
 use Rattle.mongo_command.specs.Field.{field_of, Required, ReadsText}
+use Rattle.mongo_aws.specs.declared.server_message.ServerMessage.{ServerMessage}
 use Rattle.mongo_aws.specs.Keys.{server_nonce_key, sts_host_key}
 
 -- the bytes of a binary, whatever its subtype
@@ -30,3 +31,7 @@ pub record IsServerMessage (payload : List ℕ) (said : Said) : Type 0 where
   pub elements : List Element
   pub well_formed : IsWellFormed payload elements
   pub table : IsMessageTable elements said
+
+-- what a message says that borrows it
+abbrev pub said_of : ServerMessage → Said
+said_of message = record { server_nonce = message.server_nonce.now; sts_host = message.sts_host.now }

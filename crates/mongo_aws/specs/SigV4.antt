@@ -1,16 +1,17 @@
 -- The client's second message: the signature of the request to STS, by AWS Signature Version 4, and what the server needs besides to
 -- send that request.
-use Rattle.std.specs.Prelude.{◌≡◌, ℕ, ℤ, ◌⊎◌, Option, None, Some, List, [], ◌∷◌, ◌++◌, codes}
+use Rattle.std.specs.Prelude.{◌≡◌, ℕ, ℤ, ◌⊎◌, Option, List, [], ◌∷◌, ◌++◌, codes}
 use Rattle.hex.specs.Hex.{encode_lower}
-use Rattle.mongo_bson.specs.Document.{Element}
 use Rattle.mongo_wire.specs.declared.error.ErrorKind.{ErrorKind}
 use Rattle.mongo_wire.specs.declared.error.ErrorKind.TheVariants.{Authentication}
 use Rattle.mongo_wire.specs.declared.auth_fault.AuthFault.{AuthFault}
 use Rattle.mongo_wire.specs.declared.auth_fault.AuthFault.TheVariants.{AwsHostCharacter, AwsCredentialCharacter}
+use Rattle.mongo_command.specs.Command.{present}
 use Rattle.mongo_command.specs.Conversation.{Demands, no_demand, demand, AreMet, UnmetRow, row_of}
 use Rattle.mongo_command.specs.Exchange.{DocumentRefused}
 use Rattle.mongo_command.specs.Literal.{text_element, document_of}
 use Rattle.mongo_sasl.specs.declared.aws_credentials.AwsCredentials.{AwsCredentials}
+use Rattle.mongo_aws.specs.Base64.{base64_of}
 use Rattle.mongo_aws.specs.CanonicalRequest.{Header, request_headers, signed_headers, canonical_request, hash}
 use Rattle.mongo_aws.specs.Credentials.{AreVisible}
 use Rattle.mongo_aws.specs.Date.{IsDateOf, day_of}
@@ -24,16 +25,16 @@ algorithm = codes "AWS4-HMAC-SHA256"
 
 -- StringToSign: algorithm, RequestDateTime, CredentialScope and HashedCanonicalRequest
 abbrev pub string_to_sign : List ℕ → List ℕ → List Header → List ℕ
-string_to_sign date region headers =
+string_to_sign credential_scope date headers =
     algorithm ++ codes "\n"
     ++ date ++ codes "\n"
-    ++ scope (day_of date) region ++ codes "\n"
+    ++ credential_scope ++ codes "\n"
     ++ hash (canonical_request headers)
 
 -- the signature, in lower-case hex
 unfoldable pub signature : List ℕ → List ℕ → List ℕ → List Header → List ℕ
 signature secret date region headers =
-    encode_lower (hmac_sha256 (signing_key secret (day_of date) region service) (string_to_sign date region headers))
+    encode_lower (hmac_sha256 (signing_key secret (day_of date) region service) (string_to_sign (scope (day_of date) region) date headers))
 
 -- the request's header `Authorization`
 unfoldable pub authorization : List ℕ → List ℕ → List ℕ → List ℕ → List Header → List ℕ
@@ -45,20 +46,16 @@ authorization access_key secret date region headers =
 
 -- the headers that these credentials sign
 abbrev pub headers_of : AwsCredentials → List ℕ → List ℕ → List ℕ → List Header
-headers_of credentials date host server_nonce = request_headers credentials.session_token date host server_nonce
+headers_of credentials date host server_nonce = request_headers credentials.session_token date host (base64_of server_nonce)
 
--- the session token, where there is one
-abbrev pub token_elements : Option (List ℕ) → List Element
-token_elements None = []
-token_elements (Some token) = text_element token_key token ∷ []
+-- a message of such a header, a date, and a session token where there is one
+abbrev pub message : List ℕ → List ℕ → Option (List ℕ) → List ℕ
+message header date token = document_of (text_element authorization_key header ∷ text_element date_key date ∷ present (text_element token_key) token)
 
 -- the message for a date
 unfoldable pub signed_document : AwsCredentials → List ℕ → List ℕ → List ℕ → List ℕ
 signed_document credentials date host server_nonce =
-    document_of
-    (text_element authorization_key (authorization credentials.access_key credentials.secret_key date (region_of host) (headers_of credentials date host server_nonce))
-    ∷ text_element date_key date
-    ∷ token_elements credentials.session_token)
+    message (authorization credentials.access_key credentials.secret_key date (region_of host) (headers_of credentials date host server_nonce)) date credentials.session_token
 
 -- The document is the message that these credentials sign at the moment, in milliseconds since 1970, for this host and this nonce of
 -- the server.

@@ -2,10 +2,9 @@
 // nowhere as a whole.
 
 ghost use Rattle.std.specs.Prelude.{◌≡◌, ℕ, List, ◌++◌, option_copied};
-ghost use Rattle.hex.specs.Hex.{encode_lower};
+ghost use Rattle.std.specs.Str.{IsAscii};
 ghost use Rattle.sha2.specs.Hashers.{Holds256};
-ghost use Rattle.mongo_aws.specs.Base64.{base64_of};
-ghost use Rattle.mongo_aws.specs.CanonicalRequest.{header, header_line, token_headers, canonical_headers, request_headers, signed_headers, canonical_request, hash, request_body};
+ghost use Rattle.mongo_aws.specs.CanonicalRequest.{header, header_line, token_headers, canonical_headers, request_headers, headers_in, signed_headers, canonical_request, hash};
 
 use sha2::{Digest, Sha256};
 
@@ -37,7 +36,7 @@ pub(crate) struct Request<'a> {
 
 /// The names of the headers that are signed, parted by semicolons.
 pub(crate) fn signed_headers(token: Option<&str>) -> &'static str
-    ensures { (date host nonce : List ℕ) → result.now ≡ signed_headers (request_headers (option_copied token.entry) date host nonce) }
+    ensures names { (date host nonce_text : List ℕ) → result.now ≡ signed_headers (request_headers (option_copied token.entry) date host nonce_text) }
 {
     match token {
         Some(_) => SIGNED_HEADERS_WITH_TOKEN,
@@ -47,7 +46,8 @@ pub(crate) fn signed_headers(token: Option<&str>) -> &'static str
 
 /// The hash of the canonical request.
 pub(crate) fn canonical_request_hash(request: &Request<'_>) -> [u8; 64]
-    ensures { (nonce : List ℕ) → request.now.nonce.now ≡ base64_of nonce → result ≡ hash (canonical_request (request_headers (option_copied request.now.token) request.now.date.now request.now.host.now nonce)) }
+    ensures hash { result ≡ hash (canonical_request (headers_in request.now)) }
+    ensures ascii { IsAscii result }
 {
     let mut hasher = Sha256::new();
     hasher.update(b"POST\n/\n\n".as_slice());
@@ -60,7 +60,9 @@ pub(crate) fn canonical_request_hash(request: &Request<'_>) -> [u8; 64]
 }
 
 // Adds the lines of all headers, in the order of their names.
-fn add_headers(hasher: &mut Sha256, request: &Request<'_>) {
+fn add_headers(hasher: &mut Sha256, request: &Request<'_>)
+    ensures { (added : List ℕ) → Holds256 hasher.old added → Holds256 hasher.new (added ++ canonical_headers (headers_in request.now)) }
+{
     add_header(hasher, "content-length", CONTENT_LENGTH);
     add_header(hasher, "content-type", "application/x-www-form-urlencoded");
     add_header(hasher, "host", request.host);
@@ -92,7 +94,8 @@ fn add_header(hasher: &mut Sha256, name: &str, value: &str)
 // The lower-case hex of the SHA-256 digest.
 #[tactic(auto, unfolding(crate::specs::CanonicalRequest::hash))]
 fn hash(text: &[u8]) -> [u8; 64]
-    ensures { result ≡ hash text.now }
+    ensures hash { result ≡ hash text.now }
+    ensures ascii { IsAscii result }
 {
     let mut hasher = Sha256::new();
     hasher.update(text);
@@ -102,7 +105,8 @@ fn hash(text: &[u8]) -> [u8; 64]
 // The lower-case hex of the digest of what was added.
 #[tactic(auto, unfolding(crate::specs::CanonicalRequest::hash))]
 fn hex_of(hasher: Sha256) -> [u8; 64]
-    ensures { (added : List ℕ) → Holds256 hasher added → result ≡ hash added }
+    ensures hash { (added : List ℕ) → Holds256 hasher added → result ≡ hash added }
+    ensures ascii { IsAscii result }
 {
     let digest = hasher.finalize();
     let mut text = [0; 64];

@@ -1,7 +1,8 @@
 // The date of a signature (ISO 8601, basic format).
 
-ghost use Rattle.std.specs.Prelude.{◌≡◌, ◌<◌, ◌≤◌};
-ghost use Rattle.mongo_aws.specs.Date.{IsDateOf, four_digits, two_digits, digit};
+ghost use Rattle.std.specs.Prelude.{◌≡◌};
+ghost use Rattle.std.specs.Str.{IsAscii};
+ghost use Rattle.mongo_aws.specs.Date.{IsDateOf, civil_of, date_text, digit};
 ghost use Rattle.mongo_sasl.specs.Moment.{milliseconds_of};
 
 use jiff::Timestamp;
@@ -9,15 +10,13 @@ use jiff::civil::DateTime;
 use jiff::tz::Offset;
 use mongo_sasl::Moment;
 
-/// The length of a date.
-pub(crate) const DATE_LENGTH: usize = 16;
-
 /// The length of a day, with which a date begins.
 pub(crate) const DAY_LENGTH: usize = 8;
 
 /// The date of a moment, `YYYYMMDDTHHMMSSZ`, in UTC: the second that it is in.
 pub(crate) fn date_of(moment: Moment) -> [u8; 16]
-    ensures { IsDateOf (milliseconds_of moment) result }
+    ensures date { IsDateOf (milliseconds_of moment) result }
+    ensures ascii { IsAscii result }
 {
     match Timestamp::from_millisecond(moment.ms()) {
         Ok(instant) => date_text(Offset::UTC.to_datetime(instant)),
@@ -25,7 +24,10 @@ pub(crate) fn date_of(moment: Moment) -> [u8; 16]
     }
 }
 
-fn date_text(utc: DateTime) -> [u8; 16] {
+// What a clock shows, as a date's text.
+fn date_text(utc: DateTime) -> [u8; 16]
+    ensures text { result ≡ date_text (civil_of utc) }
+{
     let year = utc.year().unsigned_abs();
     let month = utc.month().unsigned_abs();
     let day = utc.day().unsigned_abs();

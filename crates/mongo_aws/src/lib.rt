@@ -18,6 +18,7 @@
 //! cause.
 #![tactic(auto)]
 
+mod ascii;
 mod authorization;
 mod base64_text;
 mod canonical_request;

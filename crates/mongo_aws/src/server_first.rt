@@ -2,15 +2,16 @@ ghost use Rattle.std.specs.Prelude.{◌≡◌, ◌⊎◌, ℕ, List, OnOk, IfOk,
 ghost use Rattle.mongo_bson.specs.declared.fault.BsonFault.TheVariants.{OutOfMemory as NoMemory};
 ghost use Rattle.mongo_wire.specs.declared.error.ErrorKind.TheVariants.{OutOfMemory};
 ghost use Rattle.mongo_sasl.specs.Reply.{IsSaslReply};
-ghost use Rattle.mongo_sasl.specs.View.{sasl_response_of};
+ghost use Rattle.mongo_sasl.specs.View.{sasl_response_of, kind_of_field_fault};
 ghost use Rattle.mongo_aws.specs.Replies.{CarriesFirst, FirstReplyRow};
 ghost use Rattle.mongo_aws.specs.Validity.{IsValidFirst, ServerFirstRow};
 
 use crate::server_message::read_message;
 use crate::sts_host::{LONGEST_HOST, has_host_characters, has_no_empty_label};
 use mongo_bson::{BsonFault, Bytes, OwnedValue, RawDocument, Text};
+use mongo_command::FieldFault;
 use mongo_sasl::{SaslView, refused};
-use mongo_wire::{AuthFault, Error};
+use mongo_wire::{AuthFault, Error, ErrorKind};
 use std::alloc::Global;
 
 /// The length of the server's nonce in bytes: the client's 32, and as many behind them.
@@ -98,13 +99,26 @@ fn first_of(alloc: Global, view: &SaslView<'_>) -> Result<ServerFirst, Error>
     ensures read { (reply : List ℕ) → IsSaslReply reply (sasl_response_of view.now) → IfOk result (CarriesFirst reply) }
     ensures refused { (reply : List ℕ) → IsSaslReply reply (sasl_response_of view.now) → IfErr result (λ e. FirstReplyRow reply e.kind ⊎ (e.kind ≡ OutOfMemory)) }
 {
-    match read_message(alloc, view.payload) {
-        Ok(message) => Ok(ServerFirst {
-            conversation_id: view.conversation_id(alloc)?,
-            server_nonce: Bytes::from_slice(alloc, message.server_nonce)?,
-            sts_host: Text::from_slice(alloc, message.sts_host)?,
-            done: view.done,
-        }),
-        Err(error) => Err(error),
+    let message = match read_message(alloc, view.payload) {
+        Ok(message) => message,
+        Err(fault) => return Err(unread(fault)),
+    };
+    Ok(ServerFirst {
+        conversation_id: view.conversation_id(alloc)?,
+        server_nonce: Bytes::from_slice(alloc, message.server_nonce)?,
+        sts_host: Text::from_slice(alloc, message.sts_host)?,
+        done: view.done,
+    })
+}
+
+// What a message that isn't read is refused as.
+fn unread(fault: FieldFault) -> Error
+    ensures { result.kind ≡ kind_of_field_fault fault }
+{
+    match fault {
+        FieldFault::Unreadable => refused(AuthFault::Malformed),
+        FieldFault::OutOfMemory => Error {
+            kind: ErrorKind::OutOfMemory,
+        },
     }
 }

@@ -1,17 +1,15 @@
 // The server's first message as a document.
 
-ghost use Rattle.std.specs.Prelude.{◌≡◌, List, Option, Result, IfOk, IfErr, MatchResult};
+ghost use Rattle.std.specs.Prelude.{◌≡◌, List, Option};
 ghost use Rattle.mongo_bson.specs.Document.{Element, IsDocument, IsReadable, maximum_depth};
-ghost use Rattle.mongo_bson.specs.Value.{IsValue};
 ghost use Rattle.mongo_command.specs.Field.{Required, ReadsText, field_of};
 ghost use Rattle.mongo_command.specs.Fields.{IsValueOf, Answers, AreFields};
-ghost use Rattle.mongo_aws.specs.ServerMessage.{has_foreign_element, is_message_key};
+ghost use Rattle.mongo_sasl.specs.View.{read_as};
+ghost use Rattle.mongo_aws.specs.ServerMessage.{ReadsBinary, IsMessageTable, IsServerMessage, has_foreign_element, is_message_key, said_of};
 
 use crate::keys::{SERVER_NONCE, STS_HOST};
 use mongo_bson::{RawDocument, RawValue};
 use mongo_command::{FieldFault, Fields};
-use mongo_sasl::refused;
-use mongo_wire::{AuthFault, Error, ErrorKind};
 use std::alloc::Global;
 
 /// What the message says, borrowed from it.
@@ -25,17 +23,16 @@ pub(crate) struct ServerMessage<'a> {
 
 /// Reads a message: a well-formed document of just `s`, a binary of any subtype, and `h`, a text.
 ///
-/// `Malformed` where it is none.
-pub(crate) fn read_message(alloc: Global, payload: &[u8]) -> Result<ServerMessage<'_>, Error> {
+/// `Unreadable` exactly where it is none.
+pub(crate) fn read_message(alloc: Global, payload: &[u8]) -> Result<ServerMessage<'_>, FieldFault>
+    ensures { Answers IsServerMessage payload.now (read_as said_of result) }
+{
     let Ok(document) = RawDocument::from_bytes(payload) else {
-        return Err(refused(AuthFault::Malformed));
+        return Err(FieldFault::Unreadable);
     };
     match Fields::of_well_formed(alloc, document) {
-        Ok(fields) => match table_of(document, &fields) {
-            Ok(message) => Ok(message),
-            Err(fault) => Err(unread(fault)),
-        },
-        Err(fault) => Err(unread(fault)),
+        Ok(fields) => table_of(document, &fields),
+        Err(fault) => Err(fault),
     }
 }
 
@@ -43,7 +40,10 @@ pub(crate) fn read_message(alloc: Global, payload: &[u8]) -> Result<ServerMessag
 fn table_of<'a>(
     document: RawDocument<'a>,
     fields: &Fields<'a>,
-) -> Result<ServerMessage<'a>, FieldFault> {
+) -> Result<ServerMessage<'a>, FieldFault>
+    requires { IsReadable maximum_depth document.bytes.now }
+    ensures { (elements : List Element) → IsDocument document.entry.bytes.now elements → AreFields elements fields.now → Answers IsMessageTable elements (read_as said_of result) }
+{
     if has_foreign_element(document) {
         return Err(FieldFault::Unreadable);
     }
@@ -81,7 +81,9 @@ fn is_message_key(key: &str) -> bool
 }
 
 // The bytes of a binary that has to be there.
-fn binary(value: Option<RawValue<'_>>) -> Result<&[u8], FieldFault> {
+fn binary(value: Option<RawValue<'_>>) -> Result<&[u8], FieldFault>
+    ensures { (found : Option Element) → IsValueOf found value.entry → Answers (Required ReadsBinary) found (read_as (λ bytes. bytes.now) result) }
+{
     match value {
         Some(RawValue::Binary(_subtype, bytes)) => Ok(bytes),
         _ => Err(FieldFault::Unreadable),
@@ -89,19 +91,11 @@ fn binary(value: Option<RawValue<'_>>) -> Result<&[u8], FieldFault> {
 }
 
 // A text that has to be there.
-fn text(value: Option<RawValue<'_>>) -> Result<&str, FieldFault> {
+fn text(value: Option<RawValue<'_>>) -> Result<&str, FieldFault>
+    ensures { (found : Option Element) → IsValueOf found value.entry → Answers (Required ReadsText) found (read_as (λ text. text.now) result) }
+{
     match value {
         Some(RawValue::Str(text)) => Ok(text),
         _ => Err(FieldFault::Unreadable),
-    }
-}
-
-// What a message that isn't read is refused as.
-fn unread(fault: FieldFault) -> Error {
-    match fault {
-        FieldFault::Unreadable => refused(AuthFault::Malformed),
-        FieldFault::OutOfMemory => Error {
-            kind: ErrorKind::OutOfMemory,
-        },
     }
 }

@@ -1,20 +1,23 @@
-ghost use Rattle.std.specs.Prelude.{◌≡◌, IfOk, IfErr, OnOk};
+ghost use Rattle.std.specs.Prelude.{◌≡◌, ℕ, List, option_copied, IfOk, IfErr, OnOk};
+ghost use Rattle.std.specs.Str.{IsAscii};
+ghost use Rattle.mongo_command.specs.Exchange.{DocumentRefused};
+ghost use Rattle.mongo_aws.specs.Base64.{base64_of};
 ghost use Rattle.mongo_sasl.specs.Moment.{milliseconds_of};
-ghost use Rattle.mongo_aws.specs.SigV4.{Signed, CanSign, SigningRow, SigningRefused};
+ghost use Rattle.mongo_aws.specs.SigV4.{Signed, CanSign, SigningRow, SigningRefused, signed_document, message};
 
-use crate::authorization::authorization;
+use crate::ascii::ascii;
+use crate::authorization::{Signer, authorization};
 use crate::base64_text::encoded;
 use crate::canonical_request::Request;
 use crate::credentials::are_visible;
-use crate::date::date_of;
+use crate::date::{DAY_LENGTH, date_of};
 use crate::keys::{AUTHORIZATION, DATE, TOKEN};
 use crate::sts_host::{has_host_characters, region_of};
-use mongo_bson::{RawDocumentBuf, RawValue};
-use mongo_command::document_of;
+use mongo_bson::{RawDocumentBuf, Text};
+use mongo_command::{document_of, optional_text_field, text_field};
 use mongo_sasl::{AwsCredentials, Moment, refused};
 use mongo_wire::{AuthFault, Error};
 use std::alloc::Global;
-use std::str;
 
 /// The client's second message, `{a, d}`, and `t` with a session token: the header `Authorization` of the request to STS at `host`
 /// that asks who its sender is, with the server's nonce among its signed headers; the request's date, the second of `date` in UTC; the
@@ -36,11 +39,7 @@ pub fn compute_aws_sigv4_payload(
 {
     check_signable(creds, host)?;
     let nonce = encoded(alloc, server_nonce)?;
-    let date = date_of(date);
-    match str::from_utf8(&date) {
-        Ok(date) => signed_payload(alloc, creds, date, host, nonce.as_str()),
-        Err(_) => unreachable!(),
-    }
+    signed_payload(alloc, creds, &date_of(date), host, nonce.as_str())
 }
 
 // Whether the host and the credentials can be signed with.
@@ -61,27 +60,53 @@ fn check_signable(credentials: &AwsCredentials, host: &str) -> Result<(), Error>
 fn signed_payload<'x>(
     alloc: Global,
     credentials: &'x AwsCredentials,
-    date: &'x str,
+    date: &'x [u8; 16],
     host: &'x str,
     nonce: &'x str,
-) -> Result<RawDocumentBuf, Error> {
-    let token = match &credentials.session_token {
-        Some(token) => Some(token.as_str()),
-        None => None,
-    };
+) -> Result<RawDocumentBuf, Error>
+    requires { IsAscii date.now }
+    ensures signed { (server_nonce : List ℕ) → nonce.now ≡ base64_of server_nonce → IfOk result (λ payload. payload ≡ signed_document credentials.now date.now host.now server_nonce) }
+    ensures refused { (server_nonce : List ℕ) → nonce.now ≡ base64_of server_nonce → IfErr result (λ e. DocumentRefused e.kind (signed_document credentials.now date.now host.now server_nonce)) }
+{
     let request = Request {
         host,
-        date,
-        token,
+        date: ascii(date),
+        token: token_of(credentials),
         nonce,
     };
-    let header = authorization(alloc, credentials, &date[..8], region_of(host), &request)?;
-    let authorization = Some((AUTHORIZATION, RawValue::Str(header.as_str())));
-    let date = Some((DATE, RawValue::Str(date)));
-    let token = match token {
-        Some(token) => Some((TOKEN, RawValue::Str(token))),
-        None => None,
+    let signer = Signer {
+        access_key: credentials.access_key.as_str(),
+        secret_key: credentials.secret_key.as_str(),
+        day: ascii(&date[..DAY_LENGTH]),
+        region: region_of(host),
     };
-    let payload = document_of(alloc, &[authorization, date, token])?;
+    let header = authorization(alloc, &signer, &request)?;
+    payload_of(alloc, &header, request.date, &credentials.session_token)
+}
+
+// The session token, where there is one.
+fn token_of(credentials: &AwsCredentials) -> Option<&str>
+    ensures { option_copied result ≡ credentials.now.session_token }
+{
+    match &credentials.session_token {
+        Some(token) => Some(token.as_str()),
+        None => None,
+    }
+}
+
+// The message of a header, a date, and a session token where there is one.
+fn payload_of<'x>(
+    alloc: Global,
+    header: &'x Text,
+    date: &'x str,
+    token: &'x Option<Text>,
+) -> Result<RawDocumentBuf, Error>
+    ensures message { IfOk result (λ payload. payload ≡ message header.now date.now token.now) }
+    ensures refused { IfErr result (λ e. DocumentRefused e.kind (message header.now date.now token.now)) }
+{
+    let header = text_field(AUTHORIZATION, header.as_str());
+    let date = text_field(DATE, date);
+    let token = optional_text_field(TOKEN, token);
+    let payload = document_of(alloc, &[header, date, token])?;
     Ok(payload)
 }

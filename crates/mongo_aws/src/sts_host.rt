@@ -1,7 +1,7 @@
 // The host of STS that the server names.
 
-ghost use Rattle.std.specs.Prelude.{◌≡◌, ◌↔◌, IsTrue};
-ghost use Rattle.mongo_aws.specs.Host.{HasHostCharacters, HasNoEmptyLabel, is_host_character, region_of};
+ghost use Rattle.std.specs.Prelude.{◌≡◌, ◌↔◌, IsTrue, Some, slice_get};
+ghost use Rattle.mongo_aws.specs.Host.{HasHostCharacters, HasNoEmptyLabel, is_host_character, labels, region_of};
 
 /// The greatest length of a host in bytes.
 pub(crate) const LONGEST_HOST: usize = 255;
@@ -46,7 +46,9 @@ pub(crate) fn region_of(host: &str) -> &str
 }
 
 // The first label of a host.
-fn first_label(host: &str) -> &str {
+fn first_label(host: &str) -> &str
+    ensures { slice_get (labels host.now) 0 ≡ Some result.now }
+{
     match host.split_once('.') {
         Some((first, _rest)) => first,
         None => host,
