@@ -24,7 +24,7 @@ token_headers None = []
 token_headers (Some token) = header (codes "x-amz-security-token") token ∷ []
 
 -- the headers in the order of their names, all of which are signed; the nonce is a text of base64
-abbrev pub request_headers : Option (List ℕ) → List ℕ → List ℕ → List ℕ → List Header
+unfoldable pub request_headers : Option (List ℕ) → List ℕ → List ℕ → List ℕ → List Header
 request_headers token date host nonce_text =
     header (codes "content-length") (decimal (length request_body))
     ∷ header (codes "content-type") (codes "application/x-www-form-urlencoded")
@@ -44,11 +44,11 @@ abbrev pub header_line : Header → List ℕ
 header_line h = h.name ++ codes ":" ++ h.value ++ codes "\n"
 
 -- CanonicalHeaders
-abbrev pub canonical_headers : List Header → List ℕ
+unfoldable pub canonical_headers : List Header → List ℕ
 canonical_headers headers = flat_map header_line headers
 
 -- SignedHeaders: the headers' names, parted by semicolons
-abbrev pub signed_headers : List Header → List ℕ
+unfoldable pub signed_headers : List Header → List ℕ
 signed_headers headers = join_with_byte 59 (map (λ h. h.name) headers)
 
 -- the lower-case hex of the SHA-256 digest

@@ -36,7 +36,7 @@ pub(crate) struct Request<'a> {
 
 /// The names of the headers that are signed, parted by semicolons.
 pub(crate) fn signed_headers(token: Option<&str>) -> &'static str
-    ensures names { (date host nonce_text : List ℕ) → result.now ≡ signed_headers (request_headers (option_copied token.entry) date host nonce_text) }
+    ensures { (date host nonce_text : List ℕ) → result.now ≡ signed_headers (request_headers (option_copied token.entry) date host nonce_text) }
 {
     match token {
         Some(_) => SIGNED_HEADERS_WITH_TOKEN,

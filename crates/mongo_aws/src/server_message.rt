@@ -2,6 +2,7 @@
 
 ghost use Rattle.std.specs.Prelude.{◌≡◌, List, Option};
 ghost use Rattle.mongo_bson.specs.Document.{Element, IsDocument, IsReadable, maximum_depth};
+ghost use Rattle.mongo_bson.specs.Value.{IsValue};
 ghost use Rattle.mongo_command.specs.Field.{Required, ReadsText, field_of};
 ghost use Rattle.mongo_command.specs.Fields.{IsValueOf, Answers, AreFields};
 ghost use Rattle.mongo_sasl.specs.View.{read_as};
@@ -47,8 +48,8 @@ fn table_of<'a>(
     if has_foreign_element(document) {
         return Err(FieldFault::Unreadable);
     }
-    let server_nonce = binary(fields.value(SERVER_NONCE))?;
-    let sts_host = text(fields.value(STS_HOST))?;
+    let server_nonce = required_binary(fields.value(SERVER_NONCE))?;
+    let sts_host = required_text(fields.value(STS_HOST))?;
     Ok(ServerMessage {
         server_nonce,
         sts_host,
@@ -81,21 +82,41 @@ fn is_message_key(key: &str) -> bool
 }
 
 // The bytes of a binary that has to be there.
-fn binary(value: Option<RawValue<'_>>) -> Result<&[u8], FieldFault>
+fn required_binary<'a>(value: Option<RawValue<'a>>) -> Result<&'a [u8], FieldFault>
     ensures { (found : Option Element) → IsValueOf found value.entry → Answers (Required ReadsBinary) found (read_as (λ bytes. bytes.now) result) }
 {
     match value {
-        Some(RawValue::Binary(_subtype, bytes)) => Ok(bytes),
+        Some(value) => binary(value),
+        None => Err(FieldFault::Unreadable),
+    }
+}
+
+// The bytes of a binary.
+fn binary<'a>(value: RawValue<'a>) -> Result<&'a [u8], FieldFault>
+    ensures { (e : Element) → IsValue e.kind e.value value.entry → Answers ReadsBinary e (read_as (λ bytes. bytes.now) result) }
+{
+    match value {
+        RawValue::Binary(_subtype, bytes) => Ok(bytes),
         _ => Err(FieldFault::Unreadable),
     }
 }
 
 // A text that has to be there.
-fn text(value: Option<RawValue<'_>>) -> Result<&str, FieldFault>
+fn required_text<'a>(value: Option<RawValue<'a>>) -> Result<&'a str, FieldFault>
     ensures { (found : Option Element) → IsValueOf found value.entry → Answers (Required ReadsText) found (read_as (λ text. text.now) result) }
 {
     match value {
-        Some(RawValue::Str(text)) => Ok(text),
+        Some(value) => text(value),
+        None => Err(FieldFault::Unreadable),
+    }
+}
+
+// A text.
+fn text<'a>(value: RawValue<'a>) -> Result<&'a str, FieldFault>
+    ensures { (e : Element) → IsValue e.kind e.value value.entry → Answers ReadsText e (read_as (λ text. text.now) result) }
+{
+    match value {
+        RawValue::Str(text) => Ok(text),
         _ => Err(FieldFault::Unreadable),
     }
 }
