@@ -1,5 +1,5 @@
-"""What the scripts over real streams share: building a program of this repository, words that are numbers, BSON and OP_MSG read for a
-person's eyes, and a relay between a socket and a program. Python's standard library alone."""
+"""What the scripts over real streams share: building a program of this repository, words that are numbers, and a relay between a socket
+and a program. Python's standard library alone."""
 import argparse
 import os
 import selectors
@@ -8,13 +8,18 @@ import ssl
 import struct
 import subprocess
 import sys
+import time
+import typing
+
+import children
+from decoding import CUT, shown
 
 TOP = os.path.dirname(os.path.realpath(__file__))
 
 
 def built(name):
     """The path of a proved program, which is proved and built first where it isn't current. Ends with 70 where it can't be."""
-    if subprocess.run([os.path.join(TOP, 'build'), name], stdout=sys.stderr).returncode:
+    if subprocess.run([os.path.join(TOP, 'build'), name], stdout=sys.stderr, env=children.environment()).returncode:
         sys.exit(70)
     return os.path.join(TOP, 'crates', name, 'out', name)
 
@@ -39,116 +44,31 @@ def seconds(text):
     return number
 
 
-# ---- documents and frames, to be looked at
-
-# How many levels of documents are looked into: as many as the proved readers take.
-LEVELS = 100
-
-
-def printable(text):
-    """A text of the peer's for a terminal, which letters that can't be printed would steer: they stand as escapes."""
-    return ''.join(letter if letter.isprintable() else letter.encode('unicode_escape').decode() for letter in text)
-
-
-def length_at(raw, at, least):
-    """The length of four bytes that stands at a place. It has a sign, and one below the least would lead back."""
-    number = struct.unpack_from('<i', raw, at)[0]
-    if number < least:
-        raise ValueError(f'length {number}')
-    return number
-
-
-def document(raw, at, limit, level=1):
-    """The elements of a BSON document that begins at a place, as text, and the place after it. ValueError, IndexError or struct.error
-    where none begins there that ends at the limit or before it. Its elements have to end where its length says: bytes that two
-    documents both claim would be read once for each, twice as often with each level."""
-    end = at + length_at(raw, at, 5)
-    if end > limit or level > LEVELS:
-        raise ValueError('a document too long or too deep')
-    at += 4
-    parts = []
-    while raw[at]:
-        zero = raw.index(0, at + 1, end)
-        key = printable(raw[at + 1:zero].decode('utf-8', 'replace'))
-        value, at = element(raw, raw[at], zero + 1, end - 1, level)
-        if at >= end:
-            raise ValueError('an element passes its document')
-        parts.append(f'{key}: {value}')
-    if at != end - 1:
-        raise ValueError('a document ends before its length')
-    return '{' + ', '.join(parts) + '}', end
-
-
-def element(raw, kind, at, limit, level):
-    """A value as text, and the place after it, which may lie past the limit unless the value is a document."""
-    def number(form):
-        return str(struct.unpack_from('<' + form, raw, at)[0]), at + struct.calcsize('<' + form)
-    if kind == 0x01:
-        return number('d')
-    if kind in (0x02, 0x0D, 0x0E):
-        size = length_at(raw, at, 1)
-        return repr(raw[at + 4:at + 3 + size].decode('utf-8', 'replace')), at + 4 + size
-    if kind in (0x03, 0x04):
-        return document(raw, at, limit, level + 1)
-    if kind == 0x05:
-        size = length_at(raw, at, 0)
-        piece = raw[at + 5:at + 5 + size]
-        shown = repr(piece.decode('ascii')) if piece and all(32 <= byte < 127 for byte in piece) else piece.hex()
-        return f'binary {shown}', at + 5 + size
-    if kind in (0x06, 0x0A):
-        return 'null', at
-    if kind == 0x07:
-        return f'ObjectId {raw[at:at + 12].hex()}', at + 12
-    if kind == 0x08:
-        return ('true' if raw[at] else 'false'), at + 1
-    if kind == 0x09:
-        return f'date {struct.unpack_from("<q", raw, at)[0]}', at + 8
-    if kind == 0x10:
-        return number('i')
-    if kind == 0x11:
-        seconds, increment = struct.unpack_from('<II', raw, at)[::-1]
-        return f'timestamp {seconds}, {increment}', at + 8
-    if kind == 0x12:
-        return number('q')
-    raise ValueError(f'kind {kind:#x}')
-
-
-def shown(frame):
-    """A whole frame as text: its header and its document, or its bytes where these can't be read."""
-    length, request, response, code = struct.unpack_from('<iiii', frame)
-    head = f'{length} bytes, request {request}, response to {response}'
-    try:
-        if code == 2013:
-            body = document(frame, 21, length)[0] if frame[20] == 0 else 'a document sequence first'
-            return f'OP_MSG, {head}: {body}'
-        if code == 2004:
-            return f'OP_QUERY, {head}: {document(frame, frame.index(0, 20) + 9, length)[0]}'
-        if code == 1:
-            return f'OP_REPLY, {head}: {document(frame, 36, length)[0]}'
-    except (ValueError, IndexError, struct.error):
-        pass
-    return f'op code {code}, {head}: {frame[16:].hex()}'
-
+# ---- frames, as their bytes come
 
 class Frames:
-    """The frames of one direction, cut out as their bytes come, and each said where somebody listens."""
+    """The frames of one direction: their bytes are counted, and the front of each is kept, as much as is looked at."""
 
-    def __init__(self, arrow, say):
-        self.arrow, self.say, self.held = arrow, say, bytearray()
+    def __init__(self, keep):
+        self.keep, self.front, self.came, self.length = keep, bytearray(), 0, 16
 
     def take(self, piece):
-        """Whether a frame came whole with this piece."""
-        self.held += piece
-        whole = False
-        while len(self.held) >= 4:
-            length = struct.unpack_from('<i', self.held)[0]
-            if length < 16 or len(self.held) < length:
-                break
-            whole = True
-            if self.say:
-                self.say(f'{self.arrow} {shown(bytes(self.held[:length]))}')
-            del self.held[:length]
-        return whole
+        """The front and the length of each frame that came whole with this piece. After a length below that of a header none is found."""
+        at = 0
+        while at < len(piece) and self.length >= 16:
+            step = piece[at:at + self.length - self.came]
+            self.front += step[:max(0, self.keep - len(self.front))]
+            self.came += len(step)
+            at += len(step)
+            if self.came == 16:
+                self.length = struct.unpack_from('<i', self.front)[0]
+            if self.came == self.length:
+                yield bytes(self.front), self.length
+                self.front, self.came, self.length = bytearray(), 0, 16
+
+
+# How much is kept of a frame that isn't traced, so that a login is known.
+LOOKED_AT = 4096
 
 
 # ---- a program between its settings and a socket
@@ -158,7 +78,75 @@ AHEAD = 1 << 20
 
 
 class Closed(Exception):
-    """The peer was silent too long, or took nothing for as long."""
+    """A stream was given up, and why."""
+
+
+class Limits(typing.NamedTuple):
+    """How many seconds things may take: a frame of the peer's, and the taking of a piece; its silence before a frame, where that may be
+    longer; and a login, whoever's turn it is."""
+    frame: float
+    login: float
+    idle: float = 0
+
+
+class Clock:
+    """Whose turn it is, and until when. Only a whole frame passes the turn on; a single byte restarts nothing."""
+
+    def __init__(self, limits, peer_begins):
+        self.limits, self.owed, self.begun = limits, 0 if peer_begins else 1, None
+        self.turn = time.monotonic()
+        self.idle = limits.frame
+        self.login = None if peer_begins else self.turn
+
+    def touched(self):
+        """A part of a frame came from the peer."""
+        if self.begun is None:
+            self.begun = time.monotonic()
+
+    def came(self, front):
+        """A whole frame came from the peer, which is answered unless it says that more is to come."""
+        self.begun = None
+        self.turn = time.monotonic()
+        self.idle = self.limits.idle or self.limits.frame
+        if not asks_no_answer(front):
+            self.owed += 1
+        if self.login is None and any(word in front for word in (b'saslStart\0', b'speculativeAuthenticate\0')):
+            self.login = self.turn
+
+    def sent(self, front):
+        """The program wrote a whole frame. Where the limit is one of a server, a login is over that isn't said to go on."""
+        self.owed -= 1
+        self.turn = time.monotonic()
+        if self.limits.idle and (b'conversationId\0' not in front or b'\x08done\0\1' in front):
+            self.login = None
+
+    def deadline(self, program_works):
+        """When the stream is given up, and why: the program works where a part of what came is still due to it, too."""
+        if program_works or self.owed > 0:
+            ends = self.turn + self.limits.login, 'the login took too long'
+        elif self.begun is not None and self.limits.idle:
+            ends = max(self.begun, self.turn) + self.limits.frame, SILENT
+        else:
+            ends = self.turn + self.idle, SILENT
+        return ends if self.login is None else min(ends, (self.login + self.limits.login, 'the login took too long'))
+
+    def left_to_send(self):
+        """How long the peer may take what is sent."""
+        now = time.monotonic()
+        return max(0.001, self.limits.frame if self.login is None else min(self.limits.frame, self.login + self.limits.login - now))
+
+
+def number_at(front, at):
+    """A number of a frame's header."""
+    return struct.unpack_from('<i', front, at)[0]
+
+
+SILENT = 'the peer was silent, or took nothing, too long'
+
+
+def asks_no_answer(front):
+    """Whether a frame is an OP_MSG whose flag moreToCome is set."""
+    return len(front) >= 20 and struct.unpack_from('<i', front, 12)[0] == 2013 and bool(front[16] & 2)
 
 
 class Input:
@@ -202,14 +190,27 @@ def look_for(ready, stream, event, wanted):
         ready.unregister(stream)
 
 
-def relay(program, first_line, sock, peer_begins, seconds, trace):
+def relay(program, first_line, sock, peer_begins, limits, trace, masked=True, warn=None):
     """Runs a program whose standard input is one line and then what the socket gives, and whose standard output goes to the socket.
-    Gives its status and what it wrote to standard error. `Closed` where nothing came for so many seconds while it was the peer's turn,
-    or where it took nothing for so many: after a whole frame of the peer, and while a part of what came is still due to the program, it is
-    the program's turn, which may derive a key for as long as that takes. Who begins is told."""
-    out, back, peers_turn = Frames('->', trace), Frames('<-', trace), peer_begins
-    with subprocess.Popen([program], stdin=subprocess.PIPE, stdout=subprocess.PIPE, stderr=subprocess.PIPE, bufsize=0) as running, selectors.DefaultSelector() as ready:
-        said, open_streams, sending = b'', 2, True
+    Gives its status and what it wrote to standard error. `Closed` where one of the limits is passed: a whole frame of the peer's is due in
+    time, and no more than the limit of a login may pass until a frame is answered, or in a login. Who begins is told."""
+    def whole(frames, arrow, piece):
+        """Tells the clock of each frame that came whole with this piece, and says it where somebody listens."""
+        for front, length in frames.take(piece):
+            if frames is back:
+                clock.came(front)
+                if warn and len(asked) == 1 and asked[0] != (answers := number_at(front, 8)):
+                    warn(f'the server answers request {answers}, and {asked[0]} was sent; nothing else looks at that')
+            else:
+                clock.sent(front)
+                asked[:] = [number_at(front, 4)]
+            if trace:
+                trace(f'{arrow} {shown(front, length, masked)}')
+    asked = []
+    keep = CUT if trace else LOOKED_AT
+    out, back, clock = Frames(keep), Frames(keep), Clock(limits, peer_begins)
+    with children.start([program], stdin=subprocess.PIPE, stdout=subprocess.PIPE, stderr=subprocess.PIPE, bufsize=0) as running, selectors.DefaultSelector() as ready:
+        said, open_streams, sending = bytearray(), 2, True
         try:
             given = Input(running.stdin, ready)
             given.add(first_line + b'\n')
@@ -219,12 +220,13 @@ def relay(program, first_line, sock, peer_begins, seconds, trace):
                 has_room = not given.ended and len(given.due) < AHEAD
                 look_for(ready, sock, selectors.EVENT_READ, has_room)
                 waiting = has_room and getattr(sock, 'pending', lambda: 0)() > 0
-                is_silent = peers_turn and not given.due and not given.ended
-                events = [key.fileobj for key, _ in ready.select(0 if waiting else seconds if is_silent else None)]
+                ends, why = clock.deadline(bool(given.due) or given.ended)
+                left = ends - time.monotonic()
+                if left <= 0:
+                    raise Closed(why)
+                events = [key.fileobj for key, _ in ready.select(0 if waiting else left)]
                 if waiting and sock not in events:
                     events.append(sock)
-                if not events:
-                    raise Closed
                 for stream in events:
                     if stream is running.stdin:
                         given.write()
@@ -232,8 +234,9 @@ def relay(program, first_line, sock, peer_begins, seconds, trace):
                         piece = from_socket(sock)
                         if piece:
                             given.add(piece)
-                            if back.take(piece):
-                                peers_turn = False
+                            whole(back, '<-', piece)
+                            if back.came:
+                                clock.touched()
                         elif piece is not None:
                             given.end()
                     else:
@@ -244,13 +247,11 @@ def relay(program, first_line, sock, peer_begins, seconds, trace):
                         elif stream is running.stderr:
                             said += piece
                         else:
-                            if out.take(piece):
-                                peers_turn = True
-                            sending = sending and send(sock, piece, seconds)
+                            whole(out, '->', piece)
+                            sending = sending and send(sock, piece, clock.left_to_send())
             return running.wait(), said.decode('utf-8', 'replace')
         finally:
-            if running.poll() is None:
-                running.kill()
+            children.forget(running)
 
 
 def from_socket(sock):
@@ -273,6 +274,6 @@ def send(sock, piece, seconds):
         sock.sendall(piece)
         return True
     except socket.timeout:
-        raise Closed from None
+        raise Closed(SILENT) from None
     except OSError:
         return False

@@ -1,0 +1,9 @@
+pub mod Continues
+pub mod Drawn
+pub mod Flushed
+pub mod History
+pub mod OneFrameOn
+pub mod OnePassed
+pub mod Scripts
+pub mod Sends
+pub mod Turns
