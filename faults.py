@@ -28,6 +28,7 @@ TLS = {
     'CERTIFICATE_REQUIRED': ('the server wants a client certificate', 'name one with --tls-certificate'),
     'UNKNOWN_CA': ('the server doesn\'t trust the client\'s certificate', 'name another with --tls-certificate'),
     'WRONG_VERSION_NUMBER': ('the server doesn\'t speak TLS here', 'leave out --tls, or look at the port'),
+    'UNEXPECTED_EOF': ('the server ended the stream where TLS was to go on', 'does it speak TLS on this port? Else leave out --tls'),
     'HTTP_REQUEST': ('the server doesn\'t speak TLS here', 'leave out --tls, or look at the port'),
 }
 
