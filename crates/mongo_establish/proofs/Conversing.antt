@@ -1,5 +1,5 @@
 -- What a mechanism's conversation answers, as a part of its login's plan.
-use Rattle.std.proofs.Common.{◌≡◌, ℕ, ℤ, ◌∙◌, ap, subst, sym, Bool, Option, None, Some, Result, Ok, Err, List, is_some, IfErr, OnOk}
+use Rattle.std.proofs.Common.{◌≡◌, ℕ, ℤ, ◌∙◌, ap, subst, sym, Bool, Option, None, Some, Result, Ok, Err, List, [], is_some, IfErr, OnOk}
 use Rattle.mongo_wire.specs.declared.error.Error.{Error}
 use Rattle.mongo_wire.specs.declared.error.ErrorKind.{ErrorKind}
 use Rattle.mongo_wire.specs.Outside.{State}
@@ -10,6 +10,7 @@ use Rattle.mongo_command.specs.declared.server_api.ServerApi.{ServerApi}
 use Rattle.mongo_command.specs.declared.stream_description.StreamDescription.{StreamDescription}
 use Rattle.mongo_command.specs.Conversation.{Event, Turn, Plan, ending, followed_by, Reached, StoppedKeeping}
 use Rattle.mongo_command.specs.Exchange.{frame_maximum, point}
+use Rattle.mongo_command.specs.Helper.{Given}
 use Rattle.mongo_command.proofs.Steps.{reached_ending, reached_more, stopped_more}
 use Rattle.mongo_command.proofs.FollowedBy.{reached_both, stopped_first}
 use Rattle.mongo_sasl.specs.declared.credential.Credential.{Credential}
@@ -127,8 +128,8 @@ module _ (own conversation : Conversation) (is : conversation ≡ own) (free : s
   }
 
   -- what a login that costs nothing promises is what its conversation does
-  pub free_converses : {L : Type 0} (state : L → State) (IsLogin : List (List ℕ) → List (List ℕ) → Type 0) (maximum : ℤ) (link link' : L) (before after : ℤ) (buffer buffer' : FrameBuffer) (r : Result (Unit {0}) Error) (ledgers : Ledgers) → CostsNothing ledgers ledgers → kept_fault opened ≡ None
-      → EndsByScript state plan IsLogin maximum r (standing opened link before buffer) (standing left link' after buffer') → Converses r conversation setup credential round opened left (checkpoint (point (state link) before) ledgers) (checkpoint (point (state link') after) ledgers)
+  pub free_converses : {L : Type 0} (state : L → State) (IsLogin : List Given → List (List ℕ) → List (List ℕ) → Type 0) (maximum : ℤ) (link link' : L) (before after : ℤ) (buffer buffer' : FrameBuffer) (r : Result (Unit {0}) Error) (ledgers : Ledgers) → CostsNothing ledgers ledgers → kept_fault opened ≡ None
+      → EndsByScript [] state plan IsLogin maximum r (standing opened link before buffer) (standing left link' after buffer') → Converses r conversation setup credential round opened left (checkpoint (point (state link) before) ledgers) (checkpoint (point (state link') after) ledgers)
   free_converses state IsLogin maximum link link' before after buffer buffer' r ledgers nothing faultless login =
       let old = checkpoint (point (state link) before) ledgers in
       let new = checkpoint (point (state link') after) ledgers in

@@ -8,7 +8,7 @@ use Rattle.mongo_command.proofs.Ends.{PlanEnds}
 use Rattle.mongo_command.proofs.FollowedBy.{reached_both}
 use Rattle.mongo_command.proofs.Leads.{told_taken}
 use Rattle.mongo_command.proofs.OneSaid.{framed_sendable}
-use Rattle.mongo_sasl.proofs.LoginEvents.{replies_in, documents_in, within_sent, events_sent_within, within_heard, heard_within, within_given, said_sendable}
+use Rattle.mongo_sasl.proofs.LoginEvents.{replies_in, documents_in, within_sent, events_sent_within, within_heard, heard_within, said_sendable}
 use Rattle.mongo_establish.specs.Setup.{Setup}
 use Rattle.mongo_establish.specs.Client.{hello_document}
 use Rattle.mongo_establish.specs.Established.{Scripted}
@@ -129,6 +129,6 @@ script_leads setup bytes h =
       later = taken.1 ++ h.rest;
       hello = ended_leads (hello_plan setup) _ greeting bytes taken.0 (taken.1 ++ h.rest) (e.hello sendable) refl heard_first (h.joined ∙ ap (λ x. x ++ h.rest) taken.3 ∙ append_assoc taken.0 taken.1 h.rest);
       commands = hello_said setup ∷ said_in e.more;
-      whole = ended_leads (establishment_plan setup) _ greeting bytes h.taken h.rest (e.whole sendable (said_sendable (said_in e.more) (next_id setup.first_id) sent.1 later_said)) (within_given (greeted_maximum greeting) e.more e.within) heard_all h.joined;
+      whole = ended_leads (establishment_plan setup) _ greeting bytes h.taken h.rest (e.whole sendable (said_sendable (said_in e.more) (next_id setup.first_id) sent.1 later_said)) e.given_is heard_all h.joined;
       said = (sent.0, sent.1, sent.2, sent.3, sent.4, later_said);
     }

@@ -1,7 +1,7 @@
 -- The plan of an establishment has one turn; an end of its handshake is a script, and a script is an end of both.
 use Rattle.std.proofs.Common.{◌≡◌, ℕ, ◌∙◌, refl, subst, sym, inr, List, [], ◌∷◌, ◌++◌, append-nil, ap}
 use Rattle.mongo_command.specs.declared.stream_description.StreamDescription.{StreamDescription}
-use Rattle.mongo_command.specs.Conversation.{Event, exchanged, IsOne, HasNone, HasOneTurn, IsSendable, said_in}
+use Rattle.mongo_command.specs.Conversation.{Event, exchanged, IsOne, HasNone, HasOneTurn, IsSendable, said_in, given_in}
 use Rattle.mongo_command.proofs.Plans.{one_ending, one_unless, one_followed}
 use Rattle.mongo_command.proofs.Ends.{PlanEnds, ends_followed, ends_both}
 use Rattle.mongo_sasl.proofs.LoginEvents.{replies_in, documents_in, AreSendable, AreWithin}
@@ -75,6 +75,7 @@ handshake_ended setup events greeting ended service =
 -- the events of a script
 pub record ScriptEnds (setup : Setup) (script : Script) (s : IsScript setup script) : Type 0 where
   pub more : List Event
+  pub given_is : [] ≡ given_in more
   pub commands_are : s.later_commands ≡ documents_in more
   pub replies_are : s.later_replies ≡ replies_in more
   pub within : AreWithin (greeted_maximum script.greeting) more
@@ -95,6 +96,7 @@ script_ends setup script s =
     let login = login_ends setup greeting s.later_commands s.later_replies s.login in
     record {
       more = login.events;
+      given_is = login.given_is;
       commands_are = login.commands_are;
       replies_are = login.replies_are;
       within = login.within;

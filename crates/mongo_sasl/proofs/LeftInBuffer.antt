@@ -13,6 +13,7 @@ use Rattle.mongo_wire.specs.Outside.{State}
 use Rattle.mongo_command.specs.Connection.{kept_fault, KeepsRest}
 use Rattle.mongo_command.specs.Conversation.{Plan}
 use Rattle.mongo_command.specs.Exchange.{frame_maximum, SendRefused, BufferRefused, point}
+use Rattle.mongo_command.specs.Helper.{Given}
 use Rattle.mongo_sasl.specs.EndsByScript.{Standing, HoldsLast, HoldsNoReply, LeavesInBuffer, StopsBy}
 
 -- ---- bytes that are kept
@@ -118,5 +119,5 @@ module _ {L : Type 0} (state : L → State) where
         elim second.left [ inl same ↦ first_left same.0 same.1 first | inr other ↦ elim other [ inl none ↦ no_reply_left old new none | inr last ↦ second_left last first ] ]
 
 -- by a plan each
-pub leaves_both : {L T U A B : Type 0} {state : L → State} {plan : Plan A} {other : Plan B} {r : Result T Error} {s : Result U Error} {old middle new : Standing L} → StopsBy state plan r old middle → StopsBy state other s middle new → LeavesInBuffer state old new
+pub leaves_both : {L T U A B : Type 0} {state : L → State} {given more : List Given} {plan : Plan A} {other : Plan B} {r : Result T Error} {s : Result U Error} {old middle new : Standing L} → StopsBy given state plan r old middle → StopsBy more state other s middle new → LeavesInBuffer state old new
 leaves_both {state = state} {old = old} {middle = middle} {new = new} first second = both_left state old middle new first.rest second.untouched first.leaves second.leaves

@@ -1,5 +1,5 @@
 -- A call by a plan that is refused before its exchange, at it, or after it.
-use Rattle.std.proofs.Common.{◌≡◌, ◌⊎◌, ℕ, ℤ, refl, inl, inr, Option, None, Some, Result, Ok, Err, List, IfErr}
+use Rattle.std.proofs.Common.{◌≡◌, ◌⊎◌, ℕ, ℤ, refl, inl, inr, Option, None, Some, Result, Ok, Err, List, [], IfErr}
 use Rattle.std.proofs.lemmas.Result.{IfErr-weaker}
 use Rattle.std.specs.Result.{IsErrAnd}
 use Rattle.mongo_wire.specs.declared.error.Error.{Error}
@@ -9,14 +9,15 @@ use Rattle.mongo_wire.specs.Buffer.{IsFrameTaken}
 use Rattle.mongo_wire.specs.Outside.{State}
 use Rattle.mongo_command.specs.declared.command.Command.{Command}
 use Rattle.mongo_command.specs.Connection.{kept_fault}
-use Rattle.mongo_command.specs.Conversation.{Plan, StoppedKeeping, Stopped}
+use Rattle.mongo_command.specs.Conversation.{Plan, StoppedKeeping}
 use Rattle.mongo_command.specs.EndsExchange.{Footing, footing, EndsExchange}
 use Rattle.mongo_command.specs.Exchange.{command_message, frame_maximum, BufferRefused, Exchanges, ExchangeRefused, point}
+use Rattle.mongo_command.specs.Helper.{Given}
 use Rattle.mongo_command.proofs.EndsExchange.{HasRefusalCause}
 use Rattle.mongo_command.proofs.Rest.{keeps_all}
 use Rattle.mongo_command.proofs.Talked.{still_counts}
 use Rattle.mongo_sasl.specs.EndsByScript.{Standing, DrawsOnce, LeavesInBuffer, StopsBy}
-use Rattle.mongo_sasl.specs.Stops.{BeginsWithCommand, RefusedAtOnce}
+use Rattle.mongo_sasl.specs.Stops.{BeginsWithCommand, RefusedAtOnce, StoppedWith}
 use Rattle.mongo_sasl.proofs.AtOnce.{keeping_none, at_once_keeping}
 use Rattle.mongo_sasl.proofs.DrawnIds.{once_buffer, refused_draws}
 use Rattle.mongo_sasl.proofs.Handed.{handed_on}
@@ -78,7 +79,7 @@ module _ {L T A : Type 0} (state : L → State) (plan : Plan A) where
   here_answers r kind = IfErr-weaker r _ _ (λ e h. inr h)
 
   -- it made no exchange, and may be refused before one
-  pub no_exchange : (old : Standing L) (r : Result T Error) → IfErr r (λ e. RefusedAtOnce plan e.kind) → StopsBy state plan r old old
+  pub no_exchange : (old : Standing L) (r : Result T Error) → IfErr r (λ e. RefusedAtOnce plan e.kind) → StopsBy [] state plan r old old
   no_exchange old r at_once = record {
     refused = λ faultless. keeping_none r plan _ _ _ _ (kept_fault old.connection) faultless (here_keeping r old at_once);
     untouched = λ kind is. (refl, refl, refl, is);
@@ -92,7 +93,7 @@ module _ {L T A : Type 0} (state : L → State) (plan : Plan A) where
   -- the plan's first command wasn't sent, or no reply was received
   pub at_exchange : {U : Type 0} (command : Command) (old new : Standing L) (e : Error) → BeginsWithCommand plan → EndsExchange {T = U} state ExchangeRefused command (Err e) (footing_of old) (footing_of new)
       → ((kind : ErrorKind) → kept_fault old.connection ≡ Some kind → new.buffer ≡ old.buffer) → (kept_fault old.connection ≡ None → LeavesBuffer state command e.kind old new)
-      → (HasRefusalCause state command ExchangeRefused e.kind (footing_of old) (footing_of new) → StoppedKeeping plan e.kind (point (state old.link) old.id) (point (state new.link) new.id) (kept_fault new.connection)) → StopsBy {T = T} state plan (Err e) old new
+      → (HasRefusalCause state command ExchangeRefused e.kind (footing_of old) (footing_of new) → StoppedKeeping plan e.kind (point (state old.link) old.id) (point (state new.link) new.id) (kept_fault new.connection)) → StopsBy {T = T} [] state plan (Err e) old new
   at_exchange {U = U} command old new e begins ends untouched buffer stops = record {
     refused = λ faultless. stops (ends.refused faultless);
     untouched = λ kind is. let same = ends.kept kind is in (same.1, same.2, untouched kind is, same.3);
@@ -105,7 +106,7 @@ module _ {L T A : Type 0} (state : L → State) (plan : Plan A) where
 
   -- the reply was received, and may be refused
   pub after_exchange : {U : Type 0} (command : Command) (x : U) (maximum : ℤ) (message : Message) (reply : List ℕ) (old new : Standing L) (r : Result T Error) → EndsExchange state ExchangeRefused command (Ok x) (footing_of old) (footing_of new)
-      → Exchanges maximum message (point (state old.link) old.id) (point (state new.link) new.id) reply → IsFrameTaken (frame_maximum old.connection.stream_description) (state old.link) (state new.link) new.buffer → IfErr r (λ e. StoppedKeeping plan e.kind (point (state old.link) old.id) (point (state new.link) new.id) None) → StopsBy state plan r old new
+      → Exchanges maximum message (point (state old.link) old.id) (point (state new.link) new.id) reply → IsFrameTaken (frame_maximum old.connection.stream_description) (state old.link) (state new.link) new.buffer → IfErr r (λ e. StoppedKeeping plan e.kind (point (state old.link) old.id) (point (state new.link) new.id) None) → StopsBy [] state plan r old new
   after_exchange command x maximum message reply old new r ends e taken stopped = record {
     refused = λ faultless. keeping_none r plan _ _ _ _ (kept_fault new.connection) ends.faultless stopped;
     untouched = λ kind is. not_replied x kind _ (ends.kept kind is).0;
@@ -116,14 +117,15 @@ module _ {L T A : Type 0} (state : L → State) (plan : Plan A) where
     counts = ends.counts;
   }
 
+module _ {L T A : Type 0} (given : List Given) (state : L → State) (plan : Plan A) where
   -- a connection that keeps none after it kept none before it
-  pub faultless_before : (r : Result T Error) (old new : Standing L) → StopsBy state plan r old new → kept_fault new.connection ≡ None → kept_fault old.connection ≡ None
+  pub faultless_before : (r : Result T Error) (old new : Standing L) → StopsBy given state plan r old new → kept_fault new.connection ≡ None → kept_fault old.connection ≡ None
   faultless_before r old new stops none = none_kept (kept_fault old.connection) (λ kind is. not_both_faults (kept_fault new.connection) kind none (stops.untouched kind is).3)
 
   -- a refusal that is handed on leaves what it left
-  pub handed_stops : (old new : Standing L) (r : Result T Error) (e : Error) → IsErrAnd r (λ x. x ≡ e) → StopsBy {T = T} state plan (Err e) old new → StopsBy state plan r old new
-  handed_stops old new r e handed stops = handed_on (λ x. StopsBy state plan x old new) r e handed stops
+  pub handed_stops : (old new : Standing L) (r : Result T Error) (e : Error) → IsErrAnd r (λ x. x ≡ e) → StopsBy {T = T} given state plan (Err e) old new → StopsBy given state plan r old new
+  handed_stops old new r e handed stops = handed_on (λ x. StopsBy given state plan x old new) r e handed stops
 
   -- where the plan was stopped
-  pub stopped_by : (r : Result T Error) (old new : Standing L) → StopsBy state plan r old new → kept_fault old.connection ≡ None → IfErr r (λ e. Stopped plan e.kind (point (state old.link) old.id) (point (state new.link) new.id))
+  pub stopped_by : (r : Result T Error) (old new : Standing L) → StopsBy given state plan r old new → kept_fault old.connection ≡ None → IfErr r (λ e. StoppedWith given plan e.kind (point (state old.link) old.id) (point (state new.link) new.id))
   stopped_by r old new stops faultless = IfErr-weaker r _ _ (λ e s. (kept_fault new.connection, s)) (stops.refused faultless)

@@ -11,8 +11,9 @@ use Rattle.mongo_wire.specs.Frame.{Frame}
 use Rattle.mongo_wire.specs.Outside.{State, Unfailed, risen}
 use Rattle.mongo_command.specs.declared.connection.Connection.{Connection}
 use Rattle.mongo_command.specs.Connection.{kept_fault, KeepsRest}
-use Rattle.mongo_command.specs.Conversation.{Said, Turn, ends, Plan, Reached, StoppedKeeping, Leads}
+use Rattle.mongo_command.specs.Conversation.{Said, Turn, ends, Plan, ReachedGiven, StoppedGiven, LeadsGiven}
 use Rattle.mongo_command.specs.Exchange.{frame_maximum, CountsStay, Point, point}
+use Rattle.mongo_command.specs.Helper.{Given}
 use Rattle.mongo_sasl.specs.Stops.{BeginsWithCommand, RefusedAtOnce}
 use Rattle.mongo_sasl.specs.Login.{HasLogin, AnswersLed, EndsByReply}
 
@@ -56,11 +57,11 @@ pub record LeavesInBuffer {L : Type 0} (state : L → State) (old new : Standing
       ⊎ HoldsNoReply new.connection new.buffer
       ⊎ HoldsLast (frame_maximum old.connection.stream_description) (state old.link) (state new.link) new.buffer
 
--- Why a call that goes by a plan is refused, and what it leaves however it ends.
-pub record StopsBy {L T A : Type 0} (state : L → State) (plan : Plan A) (result : Result T Error) (old new : Standing L) : Type 0 where
+-- Why a call that goes by a plan is refused, by these answers of a helper, and what it leaves however it ends.
+pub record StopsBy {L T A : Type 0} (given : List Given) (state : L → State) (plan : Plan A) (result : Result T Error) (old new : Standing L) : Type 0 where
   -- A refusal says why it comes and what it left: the connection keeps the fault of an exchange that failed, where that left
   -- one, and else none.
-  pub refused : kept_fault old.connection ≡ None → IfErr result (λ e. StoppedKeeping plan e.kind (point_at state old) (point_at state new) (kept_fault new.connection))
+  pub refused : kept_fault old.connection ≡ None → IfErr result (λ e. StoppedGiven given plan e.kind (point_at state old) (point_at state new) (kept_fault new.connection))
   -- over a connection that keeps a fault nothing is done
   pub untouched : (kind : ErrorKind) → kept_fault old.connection ≡ Some kind → (new.link ≡ old.link) × (new.id ≡ old.id) × (new.buffer ≡ old.buffer) × (kept_fault new.connection ≡ Some kind)
   -- and a refusal answers that fault in place of the plan's first command, or comes before it
@@ -74,22 +75,23 @@ pub record StopsBy {L T A : Type 0} (state : L → State) (plan : Plan A) (resul
   -- what the link tells stays told, and no count falls
   pub counts : CountsStay (state old.link) (state new.link)
 
--- A login ends as its mechanism's script demands, which is given twice: as a plan, and as whole lists of commands and replies.
-pub record EndsByScript {L A : Type 0} (state : L → State) (plan : Plan A) (IsLogin : List (List ℕ) → List (List ℕ) → Type 0) (maximum : ℤ) (result : Result (Unit {0}) Error) (old new : Standing L) : Type 0 where
+-- A login ends as its mechanism's script demands, by these answers of a helper. The script is given twice: as a plan, and as whole
+-- lists of answers, commands and replies.
+pub record EndsByScript {L A : Type 0} (given : List Given) (state : L → State) (plan : Plan A) (IsLogin : List Given → List (List ℕ) → List (List ℕ) → Type 0) (maximum : ℤ) (result : Result (Unit {0}) Error) (old new : Standing L) : Type 0 where
   -- exactly the script's commands were written and its replies taken
-  pub accepted : OnOk result ((answer : A) × Reached plan answer (point_at state old) (point_at state new))
+  pub accepted : OnOk result ((answer : A) × ReachedGiven given plan answer (point_at state old) (point_at state new))
   -- an accepted login leaves the connection without a fault
   pub faultless : kept_fault old.connection ≡ None → OnOk result (kept_fault new.connection ≡ None)
   -- over a connection that keeps one, a login is accepted only where its script ends at once, which none does that begins with a
   -- command
   pub at_once : (kind : ErrorKind) → kept_fault old.connection ≡ Some kind → OnOk result ((answer : A) × plan [] (ends answer))
-  pub stops : StopsBy state plan result old new
+  pub stops : StopsBy given state plan result old new
   -- a login at the front of the bytes left is accepted, unless the link fails or memory runs out
   pub complete : (bytes : List ℕ) → kept_fault old.connection ≡ None → (state old.link).left ≡ Some bytes → HasLogin IsLogin maximum old.id bytes
       → Unfailed (state old.link) (state new.link) → IfErr result (λ e. e.kind ≡ OutOfMemory)
-  -- what the bytes left call for is answered, and the link is left as that says
-  pub exact : (bytes taken unread : List ℕ) (outcome : Turn A) (commands : List Said) → kept_fault old.connection ≡ None → (state old.link).left ≡ Some bytes → Leads plan bytes outcome commands taken unread
-      → Unfailed (state old.link) (state new.link) → AnswersLed result outcome commands unread (point_at state old) (point_at state new)
+  -- what the bytes left call for is asked and answered, and the link is left as that says
+  pub exact : (granted : List Given) (bytes taken unread : List ℕ) (outcome : Turn A) (commands : List Said) → kept_fault old.connection ≡ None → (state old.link).left ≡ Some bytes → LeadsGiven granted plan bytes outcome commands taken unread
+      → Unfailed (state old.link) (state new.link) → AnswersLed granted given result outcome commands unread (point_at state old) (point_at state new)
 
 -- The reply of a login's one exchange passed through the buffer, which holds just that.
 pub record HoldsItsReply {L A : Type 0} (state : L → State) (plan : Plan A) (answer : A) (maximum : ℤ) (old new : Standing L) : Type 0 where

@@ -16,6 +16,7 @@ use Rattle.mongo_sasl.specs.declared.sasl_response.SaslResponse.{SaslResponse}
 use Rattle.mongo_sasl.specs.Commands.{start_body}
 use Rattle.mongo_sasl.specs.Credential.{NoUserRow}
 use Rattle.mongo_sasl.specs.EndsByScript.{Standing, EndsByScript}
+use Rattle.mongo_sasl.specs.Login.{unasked}
 use Rattle.mongo_sasl.specs.Reply.{IsSaslReply, SaslRow}
 use Rattle.mongo_sasl.specs.Keys.{sasl_start_key}
 use Rattle.mongo_sasl.specs.Mechanism.{external}
@@ -103,4 +104,4 @@ plain_handed credential api maximum = record { credential = credential; server_a
 
 -- a login ends by the script of PLAIN
 abbrev pub EndsByPlain : {L : Type 0} → (L → State) → PlainHanded → Result (Unit {0}) Error → Standing L → Standing L → Type 0
-EndsByPlain state handed result old new = EndsByScript state (plain_plan handed) (IsPlainLogin handed) handed.maximum result old new
+EndsByPlain state handed result old new = EndsByScript [] state (plain_plan handed) (unasked (IsPlainLogin handed)) handed.maximum result old new

@@ -18,6 +18,7 @@ use Rattle.mongo_command.specs.Keys.{ok_key}
 use Rattle.mongo_sasl.specs.declared.mechanism.AuthMechanism.TheVariants.{MongoDbX509}
 use Rattle.mongo_sasl.specs.declared.credential.Credential.{Credential}
 use Rattle.mongo_sasl.specs.EndsByScript.{Standing, EndsByScript}
+use Rattle.mongo_sasl.specs.Login.{unasked}
 use Rattle.mongo_sasl.specs.Keys.{authenticate_key, mechanism_key, username_key}
 use Rattle.mongo_sasl.specs.Mechanism.{external, name_of}
 
@@ -107,4 +108,4 @@ x509_handed credential api speculated maximum = record { credential = credential
 
 -- a login ends by the script of X.509
 abbrev pub EndsByX509 : {L : Type 0} → (L → State) → X509Handed → Result (Unit {0}) Error → Standing L → Standing L → Type 0
-EndsByX509 state handed result old new = EndsByScript state (x509_plan handed) (IsX509Login handed) handed.maximum result old new
+EndsByX509 state handed result old new = EndsByScript [] state (x509_plan handed) (unasked (IsX509Login handed)) handed.maximum result old new

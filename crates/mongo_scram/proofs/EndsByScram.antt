@@ -1,5 +1,5 @@
 -- A SCRAM login ends by its script, where it is accepted or stopped by its opening and its closing.
-use Rattle.std.proofs.Common.{◌≡◌, ◌⊎◌, sym, subst, inl, inr, None, Some, Result, Ok, Err, IfErr, OnOk, OnErr}
+use Rattle.std.proofs.Common.{◌≡◌, ◌⊎◌, sym, subst, inl, inr, None, Some, Result, Ok, Err, [], IfErr, OnOk, OnErr}
 use Rattle.std.proofs.lemmas.Result.{IfErr-weaker}
 use Rattle.std.specs.Result.{IsErrAnd}
 use Rattle.mongo_wire.specs.declared.error.Error.{Error}
@@ -9,6 +9,7 @@ use Rattle.mongo_command.specs.Connection.{kept_fault, KeepsRest}
 use Rattle.mongo_command.specs.Conversation.{Reached}
 use Rattle.mongo_command.specs.Exchange.{CountsStay, point}
 use Rattle.mongo_sasl.specs.EndsByScript.{Standing, LeavesInBuffer, StopsBy}
+use Rattle.mongo_sasl.specs.Login.{unasked}
 use Rattle.mongo_sasl.proofs.EndsByScript.{ends_by_script}
 use Rattle.mongo_sasl.proofs.Handed.{handed_on, on_answer}
 use Rattle.mongo_sasl.proofs.AtOnce.{keeping_none}
@@ -43,7 +44,7 @@ module _ {L : Type 0} (state : L → State) (handed : Handed) (old new : Standin
   pub refused_scram : (r : Result (Unit {0}) Error) (e : Error) → IsErrAnd r (λ x. x ≡ e) → (kept_fault old.connection ≡ None → StopsScram handed e.kind (kept_fault new.connection) before after) → ((kind : ErrorKind) → kept_fault old.connection ≡ Some kind → AnswersFault e.kind kind) → SameEntries earlier later
       → Untouched → LeavesBuffer → LeavesInBuffer state old new → KeepsRest old.connection new.connection → CountsStay (state old.link) (state new.link) → EndsByScram state handed r old new earlier later
   refused_scram r e passed refused answers entries untouched buffer leaves rest counts =
-      let stops : StopsBy {T = Unit {0}} state (scram_plan handed) (Err e) old new = record {
+      let stops : StopsBy {T = Unit {0}} [] state (scram_plan handed) (Err e) old new = record {
         refused = λ faultless. (refused faultless).1;
         untouched = untouched;
         answers = λ kind is. elim (answers kind is) [ inl same ↦ inl (same.0, fault_begins handed earlier later same.1) | inr at_once ↦ inr (refused_whole handed e.kind earlier later at_once) ];
@@ -53,7 +54,7 @@ module _ {L : Type 0} (state : L → State) (handed : Handed) (old new : Standin
         counts = counts;
       } in
       handed_on (λ x. EndsByScram state handed x old new earlier later) r e passed (record {
-        script = ends_by_script state (scram_plan handed) (IsScramLogin handed) handed.maximum (scram_joins handed) old new (Err e) tt (λ none. tt) (λ kind is. tt) stops;
+        script = ends_by_script [] state (scram_plan handed) (unasked (IsScramLogin handed)) handed.maximum (scram_joins handed) old new (Err e) tt (λ none. tt) (λ kind is. tt) stops;
         accepted = tt;
         refused = λ faultless. (refused faultless).0;
         answers = answers;
@@ -74,7 +75,7 @@ module _ {L : Type 0} (state : L → State) (handed : Handed) (old new : Standin
   pub accepted_scram : (r : Result (Unit {0}) Error) → OnOk r (Accepted handed new.buffer before after) → IfErr r (λ e. StopsScram handed e.kind None before after) → OnErr r (SameEntries earlier later)
       → kept_fault old.connection ≡ None → kept_fault new.connection ≡ None → LeavesBuffer → LeavesInBuffer state old new → KeepsRest old.connection new.connection → CountsStay (state old.link) (state new.link) → EndsByScram state handed r old new earlier later
   accepted_scram r accepted stopped entries was none buffer leaves rest counts =
-      let stops : StopsBy state (scram_plan handed) r old new = record {
+      let stops : StopsBy [] state (scram_plan handed) r old new = record {
         refused = λ faultless. keeping_none r (scram_plan handed) (state old.link) (state new.link) old.id new.id (kept_fault new.connection) none (IfErr-weaker r _ _ (λ (e : Error). λ (s : StopsScram handed e.kind None before after). s.1) stopped);
         untouched = λ kind is. absurd (not_both_faults (kept_fault old.connection) kind was is);
         answers = λ kind is. absurd (not_both_faults (kept_fault old.connection) kind was is);
@@ -84,7 +85,7 @@ module _ {L : Type 0} (state : L → State) (handed : Handed) (old new : Standin
         counts = counts;
       } in
       record {
-        script = ends_by_script state (scram_plan handed) (IsScramLogin handed) handed.maximum (scram_joins handed) old new r (reached r accepted) (λ faultless. on_answer r _ none) (λ kind is. absurd (not_both_faults (kept_fault old.connection) kind was is)) stops;
+        script = ends_by_script [] state (scram_plan handed) (unasked (IsScramLogin handed)) handed.maximum (scram_joins handed) old new r (reached r accepted) (λ faultless. on_answer r _ none) (λ kind is. absurd (not_both_faults (kept_fault old.connection) kind was is)) stops;
         accepted = accepted;
         refused = λ faultless. IfErr-weaker r _ _ (λ (e : Error). λ (s : StopsScram handed e.kind None before after). s.0) stopped;
         answers = λ kind is. absurd (not_both_faults (kept_fault old.connection) kind was is);

@@ -111,11 +111,11 @@ module _ {T : Type 0} (login : ScramLogin) (found : Option FirstRound) (maximum 
       subst (λ f. RefusedAtOnce (opened_by login maximum user f) x.kind) (sym is) (reply_refused (handed_by login (Some round) maximum) user round.server_first x.kind h)
 
   -- a round that went with the hello makes no exchange
-  pub round_stops : {L : Type 0} (state : L → State) (r : Result T Error) (round : FirstRound) (old : Standing L) → found ≡ Some round → IfErr r (λ e. FirstReplyRow round.server_first e.kind ⊎ (e.kind ≡ OutOfMemory)) → StopsBy state (opened_by login maximum user found) r old old
+  pub round_stops : {L : Type 0} (state : L → State) (r : Result T Error) (round : FirstRound) (old : Standing L) → found ≡ Some round → IfErr r (λ e. FirstReplyRow round.server_first e.kind ⊎ (e.kind ≡ OutOfMemory)) → StopsBy [] state (opened_by login maximum user found) r old old
   round_stops state r round old is h = no_exchange state (opened_by login maximum user found) old r (round_refused r round is h)
 
-  pub start_stops : {L : Type 0} (state : L → State) (r : Result T Error) (old new : Standing L) → found ≡ None → StopsBy state (opened_by login maximum user None) r old new → StopsBy state (opened_by login maximum user found) r old new
-  start_stops state r old new is stops = subst (λ f. StopsBy state (opened_by login maximum user f) r old new) (sym is) stops
+  pub start_stops : {L : Type 0} (state : L → State) (r : Result T Error) (old new : Standing L) → found ≡ None → StopsBy [] state (opened_by login maximum user None) r old new → StopsBy [] state (opened_by login maximum user found) r old new
+  start_stops state r old new is stops = subst (λ f. StopsBy [] state (opened_by login maximum user f) r old new) (sym is) stops
 
   -- over a fault, only that opens
   pub round_alone : (r : Result T Error) (round : FirstRound) → found ≡ Some round → OnOk r (IsSome (speculated_of found))

@@ -1,7 +1,7 @@
 // The exchanges of a login, each a command of the client and the server's reply to it: two, or the last alone where the first messages
 // went with the hello.
 
-ghost use Rattle.std.specs.Prelude.{◌≡◌, ◌⊎◌, IfOk, IfErr, OnOk};
+ghost use Rattle.std.specs.Prelude.{◌≡◌, ◌⊎◌, [], IfOk, IfErr, OnOk};
 ghost use Rattle.mongo_wire.specs.declared.error.ErrorKind.TheVariants.{OutOfMemory};
 ghost use Rattle.mongo_command.specs.Exchange.{frame_maximum};
 ghost use Rattle.mongo_sasl.specs.EndsByScript.{standing, DrawsOnce, StopsBy};
@@ -60,7 +60,7 @@ impl Drop for Opened {
 }
 
 impl<'a> ScramLogin<'a> {
-    ghost use Rattle.std.specs.Prelude.{◌≡◌, None, Some, IsSome, IfOk, OnOk};
+    ghost use Rattle.std.specs.Prelude.{◌≡◌, None, Some, [], IsSome, IfOk, OnOk};
     ghost use Rattle.mongo_wire.specs.declared.error.ErrorKind.{ErrorKind};
     ghost use Rattle.mongo_wire.specs.Buffer.{frames_taken};
     ghost use Rattle.mongo_command.specs.Connection.{kept_fault};
@@ -83,7 +83,7 @@ impl<'a> ScramLogin<'a> {
     ) -> Result<Opened, Error>
         ensures opened { IfOk result (λ o. Opens (handed_by self.entry first_round (frame_maximum connection.old.stream_description)) (user_of user.now) o
             (point (L.state link.old) ids.old) (point (L.state link.new) ids.new)) }
-        ensures stops { StopsBy L.state (opened (speculated_of first_round) (handed_by self.entry first_round (frame_maximum connection.old.stream_description)) (user_of user.now)) result
+        ensures stops { StopsBy [] L.state (opened (speculated_of first_round) (handed_by self.entry first_round (frame_maximum connection.old.stream_description)) (user_of user.now)) result
             (standing connection.old link.old ids.old buffer.old) (standing connection.new link.new ids.new buffer.new) }
         ensures drawn { DrawsOnce (standing connection.old link.old ids.old buffer.old) (standing connection.new link.new ids.new buffer.new) }
         // Over a connection that keeps a fault, only a round that went with the hello opens.
@@ -109,7 +109,7 @@ impl<'a> ScramLogin<'a> {
     ) -> Result<Opened, Error>
         ensures opened { IfOk result (λ o. Opens (handed_by self.entry None (frame_maximum connection.old.stream_description)) (user_of user.now) o
             (point (L.state link.old) ids.old) (point (L.state link.new) ids.new)) }
-        ensures stops { StopsBy L.state (opened None (handed_by self.entry None (frame_maximum connection.old.stream_description)) (user_of user.now)) result
+        ensures stops { StopsBy [] L.state (opened None (handed_by self.entry None (frame_maximum connection.old.stream_description)) (user_of user.now)) result
             (standing connection.old link.old ids.old buffer.old) (standing connection.new link.new ids.new buffer.new) }
         ensures drawn { DrawsOnce (standing connection.old link.old ids.old buffer.old) (standing connection.new link.new ids.new buffer.new) }
         ensures once { OnOk result (LeavesOneExchange connection.old connection.new buffer.old buffer.new) }
@@ -163,7 +163,7 @@ pub fn close<L: Link>(
     // By one exchange, whose frame the buffer holds.
     ensures closed { OnOk result (EndsLastExchange L.state (final_said client_final.now (frame_maximum connection.old.stream_description)) (final_conversation client_final.now) (verifier (digest_of version) salted.now (auth_message_of client_final.now))
         (standing connection.old link.old ids.old buffer.old) (standing connection.new link.new ids.new buffer.new)) }
-    ensures stops { (c : Challenge) → StopsBy L.state (last_exchange (final_said client_final.now (frame_maximum connection.old.stream_description)) (final_conversation client_final.now) (verifier (digest_of version) salted.now (auth_message_of client_final.now)) c) result
+    ensures stops { (c : Challenge) → StopsBy [] L.state (last_exchange (final_said client_final.now (frame_maximum connection.old.stream_description)) (final_conversation client_final.now) (verifier (digest_of version) salted.now (auth_message_of client_final.now)) c) result
         (standing connection.old link.old ids.old buffer.old) (standing connection.new link.new ids.new buffer.new) }
     ensures drawn { DrawsOnce (standing connection.old link.old ids.old buffer.old) (standing connection.new link.new ids.new buffer.new) }
     ensures once { OnOk result (LeavesOneExchange connection.old connection.new buffer.old buffer.new) }

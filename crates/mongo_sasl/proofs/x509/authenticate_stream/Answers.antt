@@ -1,6 +1,7 @@
-use Rattle.std.proofs.Common.{option_copied, refl, Ok, Err}
+use Rattle.std.proofs.Common.{option_copied, refl, Ok, Err, []}
 use Rattle.mongo_command.specs.Exchange.{frame_maximum}
 use Rattle.mongo_sasl.specs.X509.{x509_handed, x509_body, x509_heard, x509_plan, IsX509Login}
+use Rattle.mongo_sasl.specs.Login.{unasked}
 use Rattle.mongo_sasl.specs.Keys.{authenticate_key}
 use Rattle.mongo_sasl.specs.Mechanism.{external}
 use Rattle.mongo_sasl.proofs.EndsByScript.{ends_by_script, refused_by_script, once_by_script, holds_its_reply}
@@ -17,7 +18,7 @@ pub returns-then-speculated-clause-login : goal.returns-then-speculated-clause-l
 returns-then-speculated-clause-login g c =
     let handed = x509_handed c.args.credential.now (option_copied c.args.server_api) c.args.speculated (frame_maximum c.args.connection.now.stream_description) in
     let answered = c.if-speculated.true in
-    ends_by_script _ (x509_plan handed) (IsX509Login handed) handed.maximum (x509_joins handed) _ _ _ (tt, x509_at_once handed _ _ answered) (λ faultless. faultless) (λ kind is. (tt, ends_at_once handed answered)) (no_exchange _ (x509_plan handed) _ (Ok tt) tt)
+    ends_by_script [] _ (x509_plan handed) (unasked (IsX509Login handed)) handed.maximum (x509_joins handed) _ _ _ (tt, x509_at_once handed _ _ answered) (λ faultless. faultless) (λ kind is. (tt, ends_at_once handed answered)) (no_exchange _ (x509_plan handed) _ (Ok tt) tt)
 
 pub returns-then-speculated-clause-buffer : goal.returns-then-speculated-clause-buffer
 returns-then-speculated-clause-buffer g c later = not_both_ways c.args.speculated _ c.if-speculated.true later
@@ -33,7 +34,7 @@ returns-in_err-command-clause-login g c =
     let e = c.in_err-command.field-0.0 in
     let r = c.from_residual.result in
     let passed = c.from_residual.ensures.1 in
-    refused_by_script _ (x509_plan handed) (IsX509Login handed) handed.maximum (x509_joins handed) _ _ r e passed
+    refused_by_script [] _ (x509_plan handed) (unasked (IsX509Login handed)) handed.maximum (x509_joins handed) _ _ r e passed
     (no_exchange _ (x509_plan handed) _ (Err e) (x509_unbuilt handed c.if-speculated.false e.kind c.in_err-command.ensures.refused))
 
 pub returns-in_err-command-clause-buffer : goal.returns-in_err-command-clause-buffer
@@ -51,7 +52,7 @@ returns-in_err-exchange_into-clause-login g c =
     let exchange = c.in_err-exchange_into.ensures in
     let r = c.from_residual-in_err-exchange_into.result in
     let passed = c.from_residual-in_err-exchange_into.ensures.1 in
-    refused_by_script _ (x509_plan handed) (IsX509Login handed) handed.maximum (x509_joins handed) _ _ r e passed
+    refused_by_script [] _ (x509_plan handed) (unasked (IsX509Login handed)) handed.maximum (x509_joins handed) _ _ r e passed
     (at_exchange _ (x509_plan handed) _ _ _ e (x509_begins handed c.if-speculated.false) exchange.ends exchange.untouched exchange.buffer
     (λ refused. x509_stopped handed c.if-speculated.false e.kind _ _ _ _ (unanswered_as authenticate_key external (x509_body handed.credential.username) handed.server_api handed.maximum c.in_ok-command.command x509_heard e.kind _ _ _ _ _ c.in_ok-command.ensures.command exchange.ends.counts refused)))
 
@@ -71,7 +72,7 @@ returns-clause-login g c =
     let reply = c.held_reply.result.bytes.now in
     let r = c.take.result in
     let exchanged = exchanged_as authenticate_key external (x509_body handed.credential.username) handed.server_api handed.maximum c.in_ok-command.command _ _ _ _ _ _ c.in_ok-command.ensures.command c.held_reply.ensures exchange.exchanged in
-    once_by_script _ (x509_plan handed) (IsX509Login handed) handed.maximum (x509_joins handed) _ _ tt _ r
+    once_by_script _ (x509_plan handed) (unasked (IsX509Login handed)) handed.maximum (x509_joins handed) _ _ tt _ r
     (x509_replied handed later r reply _ _ _ _ _ c.held_reply.ensures exchanged exchange.ends.counts c.take.ensures.taken) (was_faultless _ _ tt _ _ exchange.ends) exchange.ends.faultless
     (after_exchange _ (x509_plan handed) _ tt _ _ _ _ _ r exchange.ends exchanged exchange.taken
     (x509_refused handed later r reply _ _ _ _ exchanged exchange.ends.counts c.take.ensures.refused))

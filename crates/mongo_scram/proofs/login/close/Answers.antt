@@ -1,4 +1,4 @@
-use Rattle.std.proofs.Common.{refl, Err}
+use Rattle.std.proofs.Common.{refl, Err, []}
 use Rattle.mongo_command.specs.Exchange.{frame_maximum}
 use Rattle.mongo_scram.specs.Client.{auth_message_of, final_conversation}
 use Rattle.mongo_scram.specs.Messages.{verifier}
@@ -22,7 +22,7 @@ pub returns-in_err-command-clause-stops : goal.returns-in_err-command-clause-sto
 returns-in_err-command-clause-stops g c challenge =
     let final = c.args.client_final.now in
     let e = c.in_err-command.field-0.0 in
-    handed_stops _ _ _ _ c.from_residual.result e c.from_residual.ensures.1
+    handed_stops [] _ _ _ _ c.from_residual.result e c.from_residual.ensures.1
     (no_exchange _ _ _ (Err e) (final_unbuilt final _ _ _ challenge e.kind c.in_err-command.ensures.refused))
 
 pub returns-in_err-command-clause-drawn : goal.returns-in_err-command-clause-drawn
@@ -40,7 +40,7 @@ pub returns-in_err-exchange_into-clause-stops : goal.returns-in_err-exchange_int
 returns-in_err-exchange_into-clause-stops g c challenge =
     let e = c.in_err-exchange_into.field-0.0 in
     let exchange = c.in_err-exchange_into.ensures in
-    handed_stops _ _ _ _ c.from_residual-in_err-exchange_into.result e c.from_residual-in_err-exchange_into.ensures.1
+    handed_stops [] _ _ _ _ c.from_residual-in_err-exchange_into.result e c.from_residual-in_err-exchange_into.ensures.1
     (at_exchange _ _ _ _ _ e (final_said c.args.client_final.now (frame_maximum c.args.connection.now.stream_description), refl) exchange.ends exchange.untouched exchange.buffer (final_unanswered c.args.client_final.now c.in_ok-command.command _ _ _ challenge e.kind _ _ _ _ _ c.in_ok-command.ensures.command exchange.ends.counts))
 
 pub returns-in_err-exchange_into-clause-drawn : goal.returns-in_err-exchange_into-clause-drawn

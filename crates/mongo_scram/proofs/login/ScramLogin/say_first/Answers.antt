@@ -1,4 +1,4 @@
-use Rattle.std.proofs.Common.{None, Ok, Err, refl, ◌∙◌, inl, inr}
+use Rattle.std.proofs.Common.{None, Ok, Err, refl, ◌∙◌, inl, inr, []}
 use Rattle.mongo_command.specs.Exchange.{frame_maximum}
 use Rattle.mongo_scram.specs.Client.{user_of}
 use Rattle.mongo_scram.specs.Plan.{start_said}
@@ -19,7 +19,7 @@ returns-in_err-client_first-clause-once g c = no_answer_on c.from_residual.resul
 pub returns-in_err-client_first-clause-stops : goal.returns-in_err-client_first-clause-stops
 returns-in_err-client_first-clause-stops g c =
     let e = c.in_err-client_first.field-0.0 in
-    handed_stops _ _ _ _ c.from_residual.result e c.from_residual.ensures.1 (no_exchange _ _ _ (Err e) (inr (inl c.in_err-client_first.ensures.refused)))
+    handed_stops [] _ _ _ _ c.from_residual.result e c.from_residual.ensures.1 (no_exchange _ _ _ (Err e) (inr (inl c.in_err-client_first.ensures.refused)))
 
 pub returns-in_err-client_first-clause-drawn : goal.returns-in_err-client_first-clause-drawn
 returns-in_err-client_first-clause-drawn g c = draws_none _
@@ -40,7 +40,7 @@ returns-in_err-command-clause-stops g c =
     let first = c.in_ok-client_first.client_first in
     let start : IsPlannedFirst handed user first = record { db = made.db; source = made.source; message = made.message; api = made.api ∙ c.copied.ensures } in
     let e = c.in_err-command.field-0.0 in
-    handed_stops _ _ _ _ c.from_residual-in_err-command.result e c.from_residual-in_err-command.ensures.1
+    handed_stops [] _ _ _ _ c.from_residual-in_err-command.result e c.from_residual-in_err-command.ensures.1
     (no_exchange _ _ _ (Err e) (start_unbuilt handed user first e.kind start c.in_err-command.ensures.refused))
 
 pub returns-in_err-command-clause-drawn : goal.returns-in_err-command-clause-drawn
@@ -63,7 +63,7 @@ returns-in_err-exchange_into-clause-stops g c =
     let start : IsPlannedFirst handed user first = record { db = made.db; source = made.source; message = made.message; api = made.api ∙ c.copied.ensures } in
     let e = c.in_err-exchange_into.field-0.0 in
     let exchange = c.in_err-exchange_into.ensures in
-    handed_stops _ _ _ _ c.from_residual-in_err-exchange_into.result e c.from_residual-in_err-exchange_into.ensures.1
+    handed_stops [] _ _ _ _ c.from_residual-in_err-exchange_into.result e c.from_residual-in_err-exchange_into.ensures.1
     (at_exchange _ _ _ _ _ e (start_said handed user, refl) exchange.ends exchange.untouched exchange.buffer (start_unanswered handed user first c.in_ok-command.command e.kind _ _ _ _ _ start c.in_ok-command.ensures.command exchange.ends.counts))
 
 pub returns-in_err-exchange_into-clause-drawn : goal.returns-in_err-exchange_into-clause-drawn
@@ -88,7 +88,7 @@ returns-in_err-server_first-clause-stops g c =
     let start : IsPlannedFirst handed user first = record { db = made.db; source = made.source; message = made.message; api = made.api ∙ c.copied.ensures } in
     let e = c.in_err-server_first.field-0.0 in
     let exchange = c.in_ok-exchange_into.ensures in
-    handed_stops _ _ _ _ c.from_residual-in_err-server_first.result e c.from_residual-in_err-server_first.ensures.1
+    handed_stops [] _ _ _ _ c.from_residual-in_err-server_first.result e c.from_residual-in_err-server_first.ensures.1
     (after_exchange _ _ _ tt _ _ _ _ _ (Err e) exchange.ends exchange.exchanged exchange.taken
     (start_refused handed user _ _ e.kind _ _ _ _ c.held_reply.ensures (start_exchanged handed user first c.in_ok-command.command _ _ _ _ _ start c.in_ok-command.ensures.command exchange.exchanged) exchange.ends.counts c.in_err-server_first.ensures.refused))
 

@@ -147,7 +147,7 @@ returns-clause-login g c =
     accepted_scram _ handed _ _ _ _ r
     (accepted_by handed user o derived.key derived.salted _ _ between r c.close.new.buffer _ _ c.keep.new.cache (closing_taken handed _ _ _ _ same closed.closed.taken) ended c.keep.ensures.rounds (ends_login handed challenge derived.salted final _ is closed.closed.message) c.keep.ensures.kept)
     (stopped_last handed user o derived.key derived.salted _ _ between r _ _ _ c.keep.new.cache ended c.keep.ensures.rounds c.keep.ensures.unchanged c.keep.ensures.refused)
-    (unchanged_on r _ _ _ c.in_ok-derived.ensures.answered.entries c.keep.ensures.unchanged) (faultless_before _ _ _ _ _ opening.stops closed.once.was) closed.once.is
+    (unchanged_on r _ _ _ c.in_ok-derived.ensures.answered.entries c.keep.ensures.unchanged) (faultless_before _ _ _ _ _ _ opening.stops closed.once.was) closed.once.is
     (twice_buffer _ _ _ opening.drawn closed.drawn) (leaves_both opening.stops stops)
     (rest_on _ _ _ opening.stops.rest stops.rest) (counts_on _ _ _ opening.stops.counts stops.counts)
 
