@@ -23,7 +23,7 @@ pub mod EndsByScript
 pub mod CredentialAnswers
 mod X509Rows
 mod Foreign
-mod SaslRead
+pub mod SaslRead
 mod SuccessRead
 mod MechanismNames
 mod Judged

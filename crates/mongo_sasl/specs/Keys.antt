@@ -1,4 +1,5 @@
--- Keys of the commands of a login and of their replies, as the authentication specification spells them.
+-- Keys of the commands of a login and of their replies, as the authentication specification spells them, but the user's name
+-- in `authenticate`: the specification has `user` there, the driver `username`.
 use Rattle.std.specs.Prelude.{ℕ, List, codes}
 
 abbrev pub sasl_start_key : List ℕ

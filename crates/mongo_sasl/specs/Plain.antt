@@ -1,4 +1,5 @@
--- PLAIN, RFC 4616: one command carries the user name and the password as they are, and its reply ends the login.
+-- PLAIN, RFC 4616: one command carries the user name and the password as they are, and its reply ends the login. As in the
+-- driver, a zero byte in either and an empty password are sent, which section 2 excludes.
 use Rattle.std.specs.Prelude.{◌≡◌, ℕ, ℤ, ◌⊎◌, true, false, Result, Option, Some, unwrap_or, List, [], ◌∷◌, ◌++◌}
 use Rattle.mongo_wire.specs.declared.error.Error.{Error}
 use Rattle.mongo_wire.specs.declared.error.ErrorKind.{ErrorKind}

@@ -1,5 +1,6 @@
--- MONGODB-X509, by the authentication specification: the certificate of the link is the credential, and one command asks the
--- server to take it.
+-- MONGODB-X509, as the driver speaks it: the certificate of the link is the credential, and one command asks the server to take
+-- it. Against the authentication specification the user's name goes as `username` and not as `user`, and any answer to the same
+-- command in a hello ends the login.
 use Rattle.std.specs.Prelude.{◌≡◌, ℕ, ℤ, pos, Bool, true, false, Result, Option, List, [], ◌∷◌}
 use Rattle.mongo_bson.specs.Document.{Element, IsWellFormed}
 use Rattle.mongo_wire.specs.declared.error.Error.{Error}
@@ -77,7 +78,7 @@ x509_said handed = record { maximum = handed.maximum; document = command_documen
 abbrev pub x509_heard : List ℕ → Plan (Unit {0})
 x509_heard reply = unless (X509Row reply) (reading (AcceptsCertificate reply) (λ elements. ending tt))
 
--- nothing follows an answer in the hello
+-- nothing follows an answer in the hello, which isn't read: the driver has it so
 abbrev pub x509_plan_from : Bool → X509Handed → Plan (Unit {0})
 x509_plan_from true handed = ending tt
 x509_plan_from false handed = saying (x509_said handed) x509_heard

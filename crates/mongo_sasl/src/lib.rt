@@ -12,6 +12,7 @@
 //! Want of memory may stand in place of any answer of a call that is handed an allocator.
 #![tactic(auto)]
 
+mod aws_credentials;
 mod commands;
 mod credential;
 pub mod keys;
@@ -29,6 +30,7 @@ mod sasl_view;
 mod validation;
 pub mod x509;
 
+pub use aws_credentials::AwsCredentials;
 pub use commands::AuthOptions;
 pub use credential::Credential;
 pub use mechanism::AuthMechanism;

@@ -17,7 +17,8 @@ use Rattle.mongo_scram.specs.declared.server_final.ServerFinalBody.TheVariants.{
 abbrev pub HasNo : ℕ → List ℕ → Type 0
 HasNo byte bytes = AllByRecursion (λ other. other ≢ byte) bytes
 
--- the message begins with these three parts, cut at its commas; extensions may follow
+-- the message begins with these three parts, cut at its commas. What follows is passed over, as in the driver, `m=` too, which
+-- section 5.1 of RFC 5802 says has to fail
 pub record BeginsWithParts (message first second third : List ℕ) : Type 0 where
   pub extensions : List ℕ
   pub joined : message ≡ first ++ (0x2C ∷ (second ++ (0x2C ∷ (third ++ extensions))))
@@ -32,7 +33,8 @@ pub record IsServerFirst (message nonce salt count : List ℕ) : Type 0 where
   pub parts : BeginsWithParts message (nonce_attribute ++ nonce) (salt_attribute ++ base64_of salt) (iteration_count_attribute ++ count)
   pub bytes : IsBytes salt
 
--- the text is this number in decimal digits, where a `+` may stand first
+-- the text is this number in decimal digits, where a `+` and zeros may stand first, as the driver reads it; section 7 of RFC 5802
+-- has neither
 abbrev pub IsIterationCount : List ℕ → ℕ → Type 0
 IsIterationCount text number = IsNumeral 10 (without_leading_plus text) × (digits_value 10 (without_leading_plus text) ≡ number) × (number < 2 ^ 32)
 
