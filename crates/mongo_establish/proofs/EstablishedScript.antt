@@ -2,7 +2,8 @@
 use Rattle.std.proofs.Common.{◌≡◌, ℕ, ℤ, ◌∙◌, append-nil, append_assoc, refl, subst, sym, List, [], ◌∷◌, ◌++◌, ap, map}
 use Rattle.mongo_wire.specs.Outside.{State}
 use Rattle.mongo_wire.specs.Bytes.{IsSent, IsWhole, next_id, id_after_all}
-use Rattle.mongo_command.specs.Conversation.{Said, Event, exchanged, ends, Plan, said_in, given_in, IsSaid, IsHeard, IsFlushedAfter, Reached, Leads}
+use Rattle.mongo_command.specs.Helper.{Given}
+use Rattle.mongo_command.specs.Conversation.{Said, Event, exchanged, ends, Plan, said_in, given_in, IsSaid, IsHeard, IsFlushedAfter, Reached, Leads, LeadsGiven}
 use Rattle.mongo_command.specs.Exchange.{point}
 use Rattle.mongo_command.proofs.Ends.{PlanEnds}
 use Rattle.mongo_command.proofs.FollowedBy.{reached_both}
@@ -28,7 +29,7 @@ handshake_reached setup greeting old middle new between after hello login = reac
 
 -- the script of an end
 abbrev pub script_of : (setup : Setup) (events : List Event) (greeting : Greeting) → IsEstablished setup events greeting → Script
-script_of setup events greeting e = record { commands = hello_document setup ∷ documents_in e.more; replies = e.reply ∷ replies_in e.more; greeting = greeting }
+script_of setup events greeting e = record { given = given_in e.more; commands = hello_document setup ∷ documents_in e.more; replies = e.reply ∷ replies_in e.more; greeting = greeting }
 
 is_script : (setup : Setup) (events : List Event) (greeting : Greeting) (e : IsEstablished setup events greeting) → IsScript setup (script_of setup events greeting e)
 is_script setup events greeting e = record {
@@ -84,8 +85,8 @@ scripted_by setup greeting old new after r named =
 
 -- ---- what bytes lead to
 
--- an end of a plan that asks nothing, over bytes that begin with its replies
-ended_leads : (plan : Plan Greeting) (events : List Event) (greeting : Greeting) (bytes heard rest : List ℕ) → PlanEnds plan events greeting → [] ≡ given_in events → IsHeard events heard → bytes ≡ heard ++ rest → Leads plan bytes (ends greeting) (said_in events) heard rest
+-- an end of a plan, over bytes that begin with its replies
+ended_leads : {given : List Given} (plan : Plan Greeting) (events : List Event) (greeting : Greeting) (bytes heard rest : List ℕ) → PlanEnds plan events greeting → given ≡ given_in events → IsHeard events heard → bytes ≡ heard ++ rest → LeadsGiven given plan bytes (ends greeting) (said_in events) heard rest
 ended_leads plan events greeting bytes heard rest ended given is joined = record {
   events = events;
   follows = ended.follows;
@@ -102,13 +103,14 @@ ended_leads plan events greeting bytes heard rest ended given is joined = record
   joined = joined;
 }
 
--- a script's replies lead the hello and the establishment to their ends, the latter by the script's commands
+-- a script's replies lead the hello and the establishment to their ends, the latter by the script's answers of a helper and
+-- its commands
 pub record ScriptLeads (setup : Setup) (bytes : List ℕ) (h : HasScript setup bytes) : Type 0 where
   pub first : List ℕ
   pub later : List ℕ
   pub hello : Leads (hello_plan setup) bytes (ends h.script.greeting) (hello_said setup ∷ []) first later
   pub commands : List Said
-  pub whole : Leads (establishment_plan setup) bytes (ends h.script.greeting) commands h.taken h.rest
+  pub whole : LeadsGiven h.script.given (establishment_plan setup) bytes (ends h.script.greeting) commands h.taken h.rest
   pub said : IsSaid commands setup.first_id h.sent
 
 pub script_leads : (setup : Setup) (bytes : List ℕ) (h : HasScript setup bytes) → ScriptLeads setup bytes h

@@ -10,7 +10,7 @@ use Rattle.mongo_command.specs.Exchange.{point}
 use Rattle.mongo_command.proofs.FollowedBy.{stopped_first, stopped_second}
 use Rattle.mongo_command.proofs.Steps.{stopped_row}
 use Rattle.mongo_command.proofs.OneSaid.{one_said}
-use Rattle.mongo_command.proofs.Leads.{one_way, no_refusal, only_refusal, reached_led, stopped_led}
+use Rattle.mongo_command.proofs.Leads.{one_way, no_refusal, only_refusal, only_refusal_given, reached_led, stopped_led}
 use Rattle.mongo_scram.specs.Costs.{Ledgers, checkpoint}
 use Rattle.mongo_establish.specs.declared.establisher.HandshakePhase.{HandshakePhase}
 use Rattle.mongo_establish.specs.declared.establisher.HandshakePhase.TheVariants.{PreHello, PostHello}
@@ -75,9 +75,9 @@ pub establishment_only_memory : {T E : Type 0} (answer : Result T E) (kind_of : 
 establishment_only_memory (Ok x) kind_of setup old new after stops bytes is script unfailed = tt
 establishment_only_memory (Err e) kind_of setup old new after stops bytes is script unfailed =
     let l = script_leads setup bytes script in
-    elim (only_refusal (establishment_plan setup) (kind_of e) (ends script.script.greeting) old new setup.first_id after bytes l.commands script.taken script.rest (one_establishment setup) stops is l.whole unfailed) [
+    elim (only_refusal_given (establishment_plan setup) (kind_of e) (ends script.script.greeting) old new setup.first_id after bytes l.commands script.taken script.rest (one_establishment setup) stops.1 is l.whole unfailed) [
       | inl memory ↦ memory
-      | inr same ↦ let e = same.0 in let no : ⊥ = cc in absurd no
+      | inr same ↦ let e = same.1 in let no : ⊥ = cc in absurd no
     ]
 
 -- over bytes left that lead a plan to an outcome, only that is refused, and the link is left as it says

@@ -48,7 +48,7 @@ pub record IsEstablished (setup : Setup) (events : List Event) (greeting : Greet
   pub more : List Event
   pub events_are : events ≡ exchanged (hello_said setup) reply ∷ more
   pub greets : Greets setup.pending.address reply greeting
-  pub login : IsLogin setup greeting (documents_in more) (replies_in more)
+  pub login : IsLogin setup greeting (given_in more) (documents_in more) (replies_in more)
   pub within : AreWithin (greeted_maximum greeting) more
   pub service : NamesService setup.pending.generation greeting.description
 
@@ -65,7 +65,7 @@ handshake_ended setup events greeting ended service =
       more = both.more;
       events_are = both.events_are ∙ ap (λ x. x ++ both.more) hello.events_are;
       greets = subst (Greets setup.pending.address hello.reply) same hello.greets;
-      login = subst (λ g. IsLogin setup g (documents_in both.more) (replies_in both.more)) same login.1;
+      login = subst (λ g. IsLogin setup g (given_in both.more) (documents_in both.more) (replies_in both.more)) same login.1;
       within = subst (λ g. AreWithin (greeted_maximum g) both.more) same login.2;
       service = service;
     }
@@ -75,7 +75,7 @@ handshake_ended setup events greeting ended service =
 -- the events of a script
 pub record ScriptEnds (setup : Setup) (script : Script) (s : IsScript setup script) : Type 0 where
   pub more : List Event
-  pub given_is : [] ≡ given_in more
+  pub given_is : script.given ≡ given_in more
   pub commands_are : s.later_commands ≡ documents_in more
   pub replies_are : s.later_replies ≡ replies_in more
   pub within : AreWithin (greeted_maximum script.greeting) more
@@ -93,7 +93,7 @@ established_ends setup greeting first more hello login service =
 pub script_ends : (setup : Setup) (script : Script) (s : IsScript setup script) → ScriptEnds setup script s
 script_ends setup script s =
     let greeting = script.greeting in
-    let login = login_ends setup greeting s.later_commands s.later_replies s.login in
+    let login = login_ends setup greeting script.given s.later_commands s.later_replies s.login in
     record {
       more = login.events;
       given_is = login.given_is;
