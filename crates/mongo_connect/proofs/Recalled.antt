@@ -27,7 +27,7 @@ use Rattle.mongo_connect.specs.Settings.{with_replies}
 -- ---- what was recorded
 
 attempted : (settings : Settings) (steps : StepCounts) (setup : Setup) (origin start new : State) (after : ℤ) (held held_after : SaltedCache) (result : Result PooledConnection EstablishError)
-    → start ≡ origin → setup ≡ setup_of settings → entries_of held ≡ [] → EndsEstablishment setup (start_of setup start (ledgers steps.before held)) (checkpoint (point new after) (ledgers steps.after held_after)) result → Attempted settings steps result origin new
+    → start ≡ origin → setup ≡ setup_of settings → entries_of held ≡ [] → EndsEstablishment [] setup (start_of setup start (ledgers steps.before held)) (checkpoint (point new after) (ledgers steps.after held_after)) result → Attempted settings steps result origin new
 attempted settings steps setup origin start new after held held_after result begun same none ended =
     let first = ledgers steps.before held in
     let last = ledgers steps.after held_after in
@@ -36,12 +36,12 @@ attempted settings steps setup origin start new after held held_after result beg
       held = held;
       none_held = none;
       held_after = held_after;
-      ended = subst (λ s. EndsEstablishment (setup_of settings) (start_of (setup_of settings) s first) (checkpoint (point new after) last) result) begun (subst (λ a. EndsEstablishment a (start_of a start first) (checkpoint (point new after) last) result) same ended);
+      ended = subst (λ s. EndsEstablishment [] (setup_of settings) (start_of (setup_of settings) s first) (checkpoint (point new after) last) result) begun (subst (λ a. EndsEstablishment [] a (start_of a start first) (checkpoint (point new after) last) result) same ended);
     }
 
 -- an establishment that began where its recording did is told by what that holds
 pub told_over : {E : Type 0} {setup : Setup} (settings : Settings) (steps : StepCounts) (origin start new : State) (after : ℤ) (held held_after : SaltedCache) (result : Result PooledConnection EstablishError) (written : List ℕ) (taken : ℕ) (r : Result Rehearsal E)
-    → start ≡ origin → setup ≡ setup_of settings → entries_of held ≡ [] → EndsEstablishment setup (start_of setup start (ledgers steps.before held)) (checkpoint (point new after) (ledgers steps.after held_after)) result
+    → start ≡ origin → setup ≡ setup_of settings → entries_of held ≡ [] → EndsEstablishment [] setup (start_of setup start (ledgers steps.before held)) (checkpoint (point new after) (ledgers steps.after held_after)) result
     → new.written ≡ append_known origin.written written → IsTakenCount origin.left new.left taken → IfOk r (ReportsOutcome written taken result) → IfOk r (IsConnectionReported settings steps origin new)
 told_over {setup = setup} settings steps origin start new after held held_after result written taken (Ok x) begun same none ended appended counted tells = record {
   ended = result;
@@ -55,7 +55,7 @@ told_over {setup = setup} settings steps origin start new after held held_after 
 told_over settings steps origin start new after held held_after result written taken (Err e) begun same none ended appended counted tells = tt
 
 pub untold_over : {A E : Type 0} {setup : Setup} (settings : Settings) (steps : StepCounts) (origin start new : State) (after : ℤ) (held held_after : SaltedCache) (result : Result PooledConnection EstablishError) (r : Result A E)
-    → start ≡ origin → setup ≡ setup_of settings → entries_of held ≡ [] → EndsEstablishment setup (start_of setup start (ledgers steps.before held)) (checkpoint (point new after) (ledgers steps.after held_after)) result → OnErr r (IsUnreported settings steps origin new)
+    → start ≡ origin → setup ≡ setup_of settings → entries_of held ≡ [] → EndsEstablishment [] setup (start_of setup start (ledgers steps.before held)) (checkpoint (point new after) (ledgers steps.after held_after)) result → OnErr r (IsUnreported settings steps origin new)
 untold_over settings steps origin start new after held held_after result (Ok x) begun same none ended = tt
 untold_over {setup = setup} settings steps origin start new after held held_after result (Err e) begun same none ended = inr (result, attempted settings steps setup origin start new after held held_after result begun same none ended)
 
@@ -91,7 +91,7 @@ rehearses settings bytes steps old new x told t f =
       left_is = left_is;
       unfailed = f;
     } in
-    let replays = rehearsed {E = ℕ} (with_replies settings bytes) (setup_of settings) old new told.attempted.after _ _ told.written left told.taken told.ended (Ok x) (same_setup settings bytes) told.attempted.ended.established told.attempted.ended.refused replayed count told.tells in
+    let replays = rehearsed _ {E = ℕ} (with_replies settings bytes) (setup_of settings) old new told.attempted.after _ _ told.written left told.taken told.ended (Ok x) (same_setup settings bytes) told.attempted.ended.established told.attempted.ended.refused replayed count told.tells in
     let first = ledgers steps.before told.attempted.held in
     let last = ledgers steps.after told.attempted.held_after in
     let over = subst (λ setup. CostsOver told.ended setup bytes first last) (same_setup settings bytes) (told.attempted.ended.led.over bytes t.left f) in

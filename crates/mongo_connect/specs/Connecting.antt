@@ -26,7 +26,7 @@ pub record Attempted (settings : Settings) (steps : StepCounts) (result : Result
   pub held : SaltedCache
   pub none_held : entries_of held ≡ []
   pub held_after : SaltedCache
-  pub ended : EndsEstablishment (setup_of settings) (start_of (setup_of settings) old (ledgers steps.before held)) (checkpoint (point new after) (ledgers steps.after held_after)) result
+  pub ended : EndsEstablishment [] (setup_of settings) (start_of (setup_of settings) old (ledgers steps.before held)) (checkpoint (point new after) (ledgers steps.after held_after)) result
 
 -- the report tells how it ended, by all that was written and how many bytes were taken
 pub record IsConnectionReported (settings : Settings) (steps : StepCounts) (old new : State) (rehearsal : Rehearsal) : Type 0 where

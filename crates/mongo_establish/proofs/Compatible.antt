@@ -4,9 +4,10 @@ use Rattle.mongo_wire.specs.declared.error.ErrorKind.{ErrorKind}
 use Rattle.mongo_wire.specs.declared.error.ErrorKind.TheVariants.{IncompatibleServer}
 use Rattle.mongo_wire.specs.declared.message.Message.{Message}
 use Rattle.mongo_wire.specs.Outside.{State}
+use Rattle.mongo_command.specs.Helper.{Given}
 use Rattle.mongo_command.specs.Exchange.{ExchangeRefused, point}
 use Rattle.mongo_command.specs.declared.connection.Connection.{Connection}
-use Rattle.mongo_command.specs.Conversation.{Plan, ending, reading, saying, plain_message, StoppedKeeping}
+use Rattle.mongo_command.specs.Conversation.{Plan, ending, reading, saying, plain_message, StoppedGiven}
 use Rattle.mongo_command.proofs.OneReply.{description_row_other}
 use Rattle.mongo_command.proofs.Leads.{never_ending, never_unless, never_reading, never_saying}
 use Rattle.mongo_sasl.specs.declared.credential.Credential.{Credential}
@@ -32,7 +33,7 @@ use Rattle.mongo_scram.proofs.ScramFits.{credential_other}
 no_exchange : (maximum : ℤ) (m : Message) (old new : State) (before after : ℤ) (kept : Option ErrorKind) → ExchangeRefused IncompatibleServer maximum m (point old before) (point new after) kept → ⊥
 no_exchange maximum m old new before after kept r = elim r [ inl x ↦ x | inr u ↦ u.refused.refused ]
 
-no_stop : {A : Type 0} {kept : Option ErrorKind} (plan : Plan A) (old new : State) (before after : ℤ) → NeverIncompatible plan → StoppedKeeping plan IncompatibleServer (point old before) (point new after) kept → ⊥
+no_stop : {A : Type 0} {given : List Given} {kept : Option ErrorKind} (plan : Plan A) (old new : State) (before after : ℤ) → NeverIncompatible plan → StoppedGiven given plan IncompatibleServer (point old before) (point new after) kept → ⊥
 no_stop {kept = kept} plan old new before after fits r =
     elim r.stop [
       | inl h ↦ elim h.0.cause [ inl is ↦ fits r.events is | inr memory ↦ cc ]
@@ -85,10 +86,10 @@ fits_login_by (Some credential) setup greeting =
 
 -- ---- the handshake
 
-pub compatible : (setup : Setup) (opened connection : Connection) (kind : ErrorKind) (old new : State) (after : ℤ) (first last : Ledgers) → StoppedHandshake setup opened connection kind (start_of setup old first) (checkpoint (point new after) last) → kind ≡ IncompatibleServer → ⊥
+pub compatible : {given : List Given} (setup : Setup) (opened connection : Connection) (kind : ErrorKind) (old new : State) (after : ℤ) (first last : Ledgers) → StoppedHandshake given setup opened connection kind (start_of setup old first) (checkpoint (point new after) last) → kind ≡ IncompatibleServer → ⊥
 unfolding login_plan
-compatible setup opened connection kind old new after first last s is =
-    elim (subst (λ k. StoppedHandshake setup opened connection k (start_of setup old first) (checkpoint (point new after) last)) is s) [
-      | inl hello ↦ no_stop (hello_plan setup) old new setup.first_id after (fits_hello setup) hello.hello
+compatible {given = given} setup opened connection kind old new after first last s is =
+    elim (subst (λ k. StoppedHandshake given setup opened connection k (start_of setup old first) (checkpoint (point new after) last)) is s) [
+      | inl hello ↦ no_stop (hello_plan setup) old new setup.first_id after (fits_hello setup) hello.1.hello
       | inr login ↦ no_stop (login_plan setup login.greeting) login.middle.state new login.middle.id after (fits_login_by (logging_in setup login.greeting) setup login.greeting) login.login
     ]

@@ -2,6 +2,7 @@
 use Rattle.std.proofs.Common.{◌≡◌, ◌⊎◌, ◌↔◌, ◌<◌, ◌≤◌, ◌^◌, ℕ, ℤ, ap, subst, sym, inl, inr, Option, None, Some, Result, Ok, Err, List, Contains, IfOk, IfErr, arith}
 use Rattle.mongo_wire.specs.declared.error.ErrorKind.{ErrorKind}
 use Rattle.mongo_wire.specs.Outside.{State}
+use Rattle.mongo_command.specs.Helper.{Given}
 use Rattle.mongo_command.specs.Conversation.{Plan}
 use Rattle.mongo_command.specs.Exchange.{point}
 use Rattle.mongo_scram.specs.declared.cache.SaltedKey.{SaltedKey}
@@ -56,11 +57,11 @@ spent_some plan kind old new s =
     ]
 
 -- however an establishment came out
-pub costs_some : (r : Result PooledConnection EstablishError) (setup : Setup) (old new : State) (after : ℤ) (first last : Ledgers) → IfOk r (Established setup (start_of setup old first) (checkpoint (point new after) last))
-    → IfErr r (λ e. StoppedIn e.handshake_phase setup e.cause.kind (start_of setup old first) (checkpoint (point new after) last)) → CostsSome first last
-costs_some (Ok pooled) setup old new after first last made refused = taken_some _ _ _ (handshake_taken setup made.script.greeting (checkpoint (point old setup.first_id) first) (checkpoint (point new after) last) made.costs)
-costs_some (Err e) setup old new after first last made refused =
-    elim (establishment_spent e.handshake_phase setup e.cause.kind old new after first last refused) [
+pub costs_some : (given : List Given) (r : Result PooledConnection EstablishError) (setup : Setup) (old new : State) (after : ℤ) (first last : Ledgers) → IfOk r (Established given setup (start_of setup old first) (checkpoint (point new after) last))
+    → IfErr r (λ e. StoppedIn given e.handshake_phase setup e.cause.kind (start_of setup old first) (checkpoint (point new after) last)) → CostsSome first last
+costs_some given (Ok pooled) setup old new after first last made refused = taken_some _ _ _ (handshake_taken setup made.script.greeting (checkpoint (point old setup.first_id) first) (checkpoint (point new after) last) made.costs)
+costs_some given (Err e) setup old new after first last made refused =
+    elim (establishment_spent _ e.handshake_phase setup e.cause.kind old new after first last refused) [
       | inl spent ↦ spent_some _ e.cause.kind (checkpoint (point old setup.first_id) first) (checkpoint (point new after) last) spent
       | inr unnamed ↦ taken_some _ _ _ (handshake_taken setup unnamed.1.0 (checkpoint (point old setup.first_id) first) (checkpoint (point new after) last) unnamed.1.1)
     ]

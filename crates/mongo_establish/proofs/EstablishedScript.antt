@@ -3,7 +3,7 @@ use Rattle.std.proofs.Common.{◌≡◌, ℕ, ℤ, ◌∙◌, append-nil, append
 use Rattle.mongo_wire.specs.Outside.{State}
 use Rattle.mongo_wire.specs.Bytes.{IsSent, IsWhole, next_id, id_after_all}
 use Rattle.mongo_command.specs.Helper.{Given}
-use Rattle.mongo_command.specs.Conversation.{Said, Event, exchanged, ends, Plan, said_in, given_in, IsSaid, IsHeard, IsFlushedAfter, Reached, Leads, LeadsGiven}
+use Rattle.mongo_command.specs.Conversation.{Said, Event, exchanged, ends, Plan, said_in, given_in, IsSaid, IsHeard, IsFlushedAfter, Reached, Leads, LeadsGiven, ReachedGiven}
 use Rattle.mongo_command.specs.Exchange.{point}
 use Rattle.mongo_command.proofs.Ends.{PlanEnds}
 use Rattle.mongo_command.proofs.FollowedBy.{reached_both}
@@ -23,7 +23,7 @@ use Rattle.mongo_establish.proofs.EstablishmentPlan.{IsEstablished, handshake_en
 -- ---- what was made
 
 -- a hello and a login that were followed to their ends are a handshake
-pub handshake_reached : (setup : Setup) (greeting : Greeting) (old middle new : State) (between after : ℤ) → Reached (hello_plan setup) greeting (point old setup.first_id) (point middle between) → Reached (login_plan setup greeting) greeting (point middle between) (point new after) → Reached (handshake_plan setup) greeting (point old setup.first_id) (point new after)
+pub handshake_reached : {given : List Given} (setup : Setup) (greeting : Greeting) (old middle new : State) (between after : ℤ) → Reached (hello_plan setup) greeting (point old setup.first_id) (point middle between) → ReachedGiven given (login_plan setup greeting) greeting (point middle between) (point new after) → ReachedGiven given (handshake_plan setup) greeting (point old setup.first_id) (point new after)
 unfolding handshake_plan
 handshake_reached setup greeting old middle new between after hello login = reached_both (hello_plan setup) (login_plan setup) greeting greeting old middle new setup.first_id between after hello login
 
@@ -55,18 +55,22 @@ script_heard setup events greeting e bytes heard =
     (first.0, first.1, first.2, first.3, first.4, first.5, first.6, within_heard (greeted_maximum greeting) e.more first.1 e.within first.7)
 
 -- of a handshake that was followed to its end
-pub ended_by : (setup : Setup) (greeting : Greeting) (old new : State) (after : ℤ) (r : Reached (handshake_plan setup) greeting (point old setup.first_id) (point new after)) → NamesService setup.pending.generation greeting.description → IsEstablished setup r.events greeting
+pub ended_by : {given : List Given} (setup : Setup) (greeting : Greeting) (old new : State) (after : ℤ) (r : ReachedGiven given (handshake_plan setup) greeting (point old setup.first_id) (point new after)) → NamesService setup.pending.generation greeting.description → IsEstablished setup r.events greeting
 ended_by setup greeting old new after r named = handshake_ended setup r.events greeting (record { follows = r.talked.follows; answer_is = r.answer_is }) named
 
-abbrev pub script_by : (setup : Setup) (greeting : Greeting) (old new : State) (after : ℤ) → Reached (handshake_plan setup) greeting (point old setup.first_id) (point new after) → NamesService setup.pending.generation greeting.description → Script
+abbrev pub script_by : {given : List Given} (setup : Setup) (greeting : Greeting) (old new : State) (after : ℤ) → ReachedGiven given (handshake_plan setup) greeting (point old setup.first_id) (point new after) → NamesService setup.pending.generation greeting.description → Script
 script_by setup greeting old new after r named = script_of setup r.events greeting (ended_by setup greeting old new after r named)
+
+-- and what a helper gave in it
+pub script_given : {given : List Given} (setup : Setup) (greeting : Greeting) (old new : State) (after : ℤ) (r : ReachedGiven given (handshake_plan setup) greeting (point old setup.first_id) (point new after)) (named : NamesService setup.pending.generation greeting.description) → given ≡ (script_by setup greeting old new after r named).given
+script_given setup greeting old new after r named = r.given_is ∙ ap given_in (ended_by setup greeting old new after r named).events_are
 
 -- the ids that a login's commands draw
 within_ids : (said : List Said) (id : ℤ) → id_after_all said id ≡ id_after_all (map (λ s. s.document) said) id
 within_ids [] id = refl
 within_ids (s ∷ said) id = within_ids said (next_id id)
 
-pub scripted_by : (setup : Setup) (greeting : Greeting) (old new : State) (after : ℤ) (r : Reached (handshake_plan setup) greeting (point old setup.first_id) (point new after)) (named : NamesService setup.pending.generation greeting.description) → Scripted setup (script_by setup greeting old new after r named) old new after
+pub scripted_by : {given : List Given} (setup : Setup) (greeting : Greeting) (old new : State) (after : ℤ) (r : ReachedGiven given (handshake_plan setup) greeting (point old setup.first_id) (point new after)) (named : NamesService setup.pending.generation greeting.description) → Scripted setup (script_by setup greeting old new after r named) old new after
 scripted_by setup greeting old new after r named =
     let t = r.talked in
     let e = ended_by setup greeting old new after r named in

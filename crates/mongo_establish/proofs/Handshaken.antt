@@ -1,13 +1,14 @@
 -- A handshake over a connection, as a part of the establishment that it is for.
-use Rattle.std.proofs.Common.{◌≡◌, ℤ, ◌∙◌, refl, subst, sym, ap, inl, inr, Option, Some}
+use Rattle.std.proofs.Common.{◌≡◌, ℤ, ◌∙◌, refl, subst, sym, ap, inl, inr, Option, Some, List, []}
 use Rattle.mongo_wire.specs.declared.error.ErrorKind.{ErrorKind}
 use Rattle.mongo_wire.specs.Outside.{State}
+use Rattle.mongo_command.specs.Helper.{Given}
 use Rattle.mongo_command.specs.declared.connection.Connection.{Connection}
 use Rattle.mongo_command.specs.declared.stream_description.StreamDescription.{StreamDescription}
 use Rattle.mongo_command.specs.declared.hello.HelloReply.{HelloReply}
 use Rattle.mongo_command.specs.declared.server_address.ServerAddress.{ServerAddress}
 use Rattle.mongo_command.specs.Connection.{kept_fault}
-use Rattle.mongo_command.specs.Conversation.{Plan, unless, saying, Reached, Stopped}
+use Rattle.mongo_command.specs.Conversation.{Plan, unless, saying, Reached, Stopped, ReachedGiven}
 use Rattle.mongo_command.specs.Exchange.{point}
 use Rattle.mongo_sasl.specs.declared.credential.Credential.{Credential}
 use Rattle.mongo_scram.specs.Costs.{Ledgers, checkpoint}
@@ -29,7 +30,7 @@ use Rattle.mongo_establish.specs.Refusal.{NoService}
 use Rattle.mongo_establish.specs.Speculation.{HelloRow}
 use Rattle.mongo_establish.specs.Stopped.{StoppedIn, StoppedAfterHello}
 use Rattle.mongo_establish.proofs.LoginAlike.{pending_over, reached_alike, stopped_alike, costs_alike, stopped_login_costs_alike}
-use Rattle.mongo_establish.proofs.EstablishedScript.{handshake_reached, script_by, scripted_by}
+use Rattle.mongo_establish.proofs.EstablishedScript.{handshake_reached, script_by, script_given, scripted_by}
 
 -- ---- the plans of a handshake
 
@@ -61,21 +62,21 @@ module _ (pending : PendingConnection) (options : HandshakerOptions) (credential
   unfolding hello_plan
   hello_stopped kind old new before after s = subst (λ address. Stopped (hello_at wanted address) kind (point old before) (point new after)) same s
 
-  login_reached : (greeting : Greeting) (old new : State) (before after : ℤ) → Reached (login_plan over greeting) greeting (point old before) (point new after) → Reached (login_plan wanted greeting) greeting (point old before) (point new after)
+  login_reached : {given : List Given} (greeting : Greeting) (old new : State) (before after : ℤ) → ReachedGiven given (login_plan over greeting) greeting (point old before) (point new after) → ReachedGiven given (login_plan wanted greeting) greeting (point old before) (point new after)
   login_reached = reached_alike (pending_over opened) pending options credential nonces id id
 
   -- ---- a handshake that was followed to its end
 
-  handshake_wanted : (connection : Connection) (old new : State) (after : ℤ) (first last : Ledgers) (reply : HelloReply) (s : ShookHands over opened connection (start_of over old first) (checkpoint (point new after) last) reply) → Reached (handshake_plan wanted) s.script.greeting (point old id) (point new after)
+  handshake_wanted : {given : List Given} (connection : Connection) (old new : State) (after : ℤ) (first last : Ledgers) (reply : HelloReply) (s : ShookHands given over opened connection (start_of over old first) (checkpoint (point new after) last) reply) → ReachedGiven given (handshake_plan wanted) s.script.greeting (point old id) (point new after)
   handshake_wanted connection old new after first last reply s =
       let greeting = s.script.greeting in
       handshake_reached wanted greeting old s.middle.state new s.middle.id after (hello_reached greeting old s.middle.state id s.middle.id s.hello) (login_reached greeting s.middle.state new s.middle.id after s.login)
 
-  shook_login_costs : (connection : Connection) (old new : State) (after : ℤ) (first last : Ledgers) (reply : HelloReply) (s : ShookHands over opened connection (start_of over old first) (checkpoint (point new after) last) reply) → LoginCosts wanted s.script.greeting (checkpoint s.middle first) (checkpoint (point new after) last)
+  shook_login_costs : {given : List Given} (connection : Connection) (old new : State) (after : ℤ) (first last : Ledgers) (reply : HelloReply) (s : ShookHands given over opened connection (start_of over old first) (checkpoint (point new after) last) reply) → LoginCosts wanted s.script.greeting (checkpoint s.middle first) (checkpoint (point new after) last)
   shook_login_costs connection old new after first last reply s = costs_alike (pending_over opened) pending options credential nonces id id s.script.greeting (checkpoint s.middle first) (checkpoint (point new after) last) s.costs
 
   -- what was derived and kept
-  pub shook_costs : (connection : Connection) (old new : State) (after : ℤ) (first last : Ledgers) (reply : HelloReply) (s : ShookHands over opened connection (start_of over old first) (checkpoint (point new after) last) reply) → HandshakeCosts wanted s.script.greeting (checkpoint (point old id) first) (checkpoint (point new after) last)
+  pub shook_costs : {given : List Given} (connection : Connection) (old new : State) (after : ℤ) (first last : Ledgers) (reply : HelloReply) (s : ShookHands given over opened connection (start_of over old first) (checkpoint (point new after) last) reply) → HandshakeCosts wanted s.script.greeting (checkpoint (point old id) first) (checkpoint (point new after) last)
   shook_costs connection old new after first last reply s = record {
     middle = s.middle;
     hello = hello_reached s.script.greeting old s.middle.state id s.middle.id s.hello;
@@ -83,8 +84,8 @@ module _ (pending : PendingConnection) (options : HandshakerOptions) (credential
   }
 
   -- is the connection that is ready for commands, where a service that has to be named is
-  pub established : (connection : Connection) (old new : State) (after : ℤ) (first last : Ledgers) (reply : HelloReply) (pooled : PooledConnection) → opened.id ≡ pending.id → opened.oidc_token_gen_id ≡ 0 → ShookHands over opened connection (start_of over old first) (checkpoint (point new after) last) reply
-      → IsPooled connection pending.generation pooled → Established wanted (start_of wanted old first) (checkpoint (point new after) last) pooled
+  pub established : {given : List Given} (connection : Connection) (old new : State) (after : ℤ) (first last : Ledgers) (reply : HelloReply) (pooled : PooledConnection) → opened.id ≡ pending.id → opened.oidc_token_gen_id ≡ 0 → ShookHands given over opened connection (start_of over old first) (checkpoint (point new after) last) reply
+      → IsPooled connection pending.generation pooled → Established given wanted (start_of wanted old first) (checkpoint (point new after) last) pooled
   established connection old new after first last reply pooled number token s p =
       let greeting = s.script.greeting in
       let description : p.description ≡ greeting.description = same_description p.description greeting.description (sym p.described ∙ s.described.holds.description_is) in
@@ -92,6 +93,7 @@ module _ (pending : PendingConnection) (options : HandshakerOptions) (credential
       let named = subst (NamesService pending.generation) description p.named in
       record {
         script = script_by wanted greeting old new after whole named;
+        given_is = script_given wanted greeting old new after whole named;
         scripted = scripted_by wanted greeting old new after whole named;
         connection = subst (λ c. IsDescribed wanted c greeting) (sym p.connection_is) (is_described wanted opened connection greeting s.described same number token);
         generation = p.generation_is ∙ ap (generation_of pending.generation) description;
@@ -100,16 +102,16 @@ module _ (pending : PendingConnection) (options : HandshakerOptions) (credential
 
   -- ---- a handshake that was stopped, and one whose server named no service
 
-  late_phase : (phase : HandshakePhase) (description : StreamDescription) (kind : ErrorKind) (old new : State) (after : ℤ) (first last : Ledgers) → phase ≡ PostHello (generation_of pending.generation description)
-      → StoppedAfterHello wanted (generation_of pending.generation description) kind (start_of wanted old first) (checkpoint (point new after) last) → StoppedIn phase wanted kind (start_of wanted old first) (checkpoint (point new after) last)
-  late_phase phase description kind old new after first last is stopped = subst (λ p. StoppedIn p wanted kind (start_of wanted old first) (checkpoint (point new after) last)) (sym is) stopped
+  late_phase : {given : List Given} (phase : HandshakePhase) (description : StreamDescription) (kind : ErrorKind) (old new : State) (after : ℤ) (first last : Ledgers) → phase ≡ PostHello (generation_of pending.generation description)
+      → StoppedAfterHello given wanted (generation_of pending.generation description) kind (start_of wanted old first) (checkpoint (point new after) last) → StoppedIn given phase wanted kind (start_of wanted old first) (checkpoint (point new after) last)
+  late_phase {given = given} phase description kind old new after first last is stopped = subst (λ p. StoppedIn given p wanted kind (start_of wanted old first) (checkpoint (point new after) last)) (sym is) stopped
 
-  stopped_hello : (phase : HandshakePhase) (connection : Connection) (kind : ErrorKind) (old new : State) (after : ℤ) (first last : Ledgers) → phase ≡ phase_at connection.stream_description pending.generation → StoppedHello over opened connection kind (start_of over old first) (checkpoint (point new after) last) → StoppedIn phase wanted kind (start_of wanted old first) (checkpoint (point new after) last)
+  stopped_hello : (phase : HandshakePhase) (connection : Connection) (kind : ErrorKind) (old new : State) (after : ℤ) (first last : Ledgers) → phase ≡ phase_at connection.stream_description pending.generation → StoppedHello over opened connection kind (start_of over old first) (checkpoint (point new after) last) → StoppedIn [] phase wanted kind (start_of wanted old first) (checkpoint (point new after) last)
   stopped_hello phase connection kind old new after first last is s =
       let early : phase ≡ PreHello pending.generation = is ∙ ap (λ d. phase_at d pending.generation) s.undescribed in
-      subst (λ p. StoppedIn p wanted kind (start_of wanted old first) (checkpoint (point new after) last)) (sym early) (refl, hello_stopped kind old new id after (kept_fault connection, s.hello), s.costs)
+      subst (λ p. StoppedIn [] p wanted kind (start_of wanted old first) (checkpoint (point new after) last)) (sym early) (refl, refl, hello_stopped kind old new id after (kept_fault connection, s.hello), s.costs)
 
-  stopped_login : (phase : HandshakePhase) (connection : Connection) (kind : ErrorKind) (old new : State) (after : ℤ) (first last : Ledgers) → phase ≡ phase_at connection.stream_description pending.generation → StoppedLogin over opened connection kind (start_of over old first) (checkpoint (point new after) last) → StoppedIn phase wanted kind (start_of wanted old first) (checkpoint (point new after) last)
+  stopped_login : {given : List Given} (phase : HandshakePhase) (connection : Connection) (kind : ErrorKind) (old new : State) (after : ℤ) (first last : Ledgers) → phase ≡ phase_at connection.stream_description pending.generation → StoppedLogin given over opened connection kind (start_of over old first) (checkpoint (point new after) last) → StoppedIn given phase wanted kind (start_of wanted old first) (checkpoint (point new after) last)
   stopped_login phase connection kind old new after first last is s =
       late_phase phase s.greeting.description kind old new after first last (is ∙ ap (λ d. phase_at d pending.generation) s.held.description_is) (record {
         greeting = s.greeting;
@@ -123,12 +125,12 @@ module _ (pending : PendingConnection) (options : HandshakerOptions) (credential
       })
 
   -- the phase is what the connection's description says
-  pub stopped_in : (phase : HandshakePhase) (connection : Connection) (kind : ErrorKind) (old new : State) (after : ℤ) (first last : Ledgers) → phase ≡ phase_at connection.stream_description pending.generation → StoppedHandshake over opened connection kind (start_of over old first) (checkpoint (point new after) last) → StoppedIn phase wanted kind (start_of wanted old first) (checkpoint (point new after) last)
+  pub stopped_in : {given : List Given} (phase : HandshakePhase) (connection : Connection) (kind : ErrorKind) (old new : State) (after : ℤ) (first last : Ledgers) → phase ≡ phase_at connection.stream_description pending.generation → StoppedHandshake given over opened connection kind (start_of over old first) (checkpoint (point new after) last) → StoppedIn given phase wanted kind (start_of wanted old first) (checkpoint (point new after) last)
   stopped_in phase connection kind old new after first last is s =
-      elim s [ inl h ↦ stopped_hello phase connection kind old new after first last is h | inr l ↦ stopped_login phase connection kind old new after first last is l ]
+      elim s [ inl h ↦ subst (λ g. StoppedIn g phase wanted kind (start_of wanted old first) (checkpoint (point new after) last)) (sym h.0) (stopped_hello phase connection kind old new after first last is h.1) | inr l ↦ stopped_login phase connection kind old new after first last is l ]
 
-  pub unnamed_stopped : (connection : Connection) (old new : State) (after : ℤ) (first last : Ledgers) (reply : HelloReply) (e : EstablishError) → ShookHands over opened connection (start_of over old first) (checkpoint (point new after) last) reply → UnnamedService connection pending.generation e
-      → StoppedIn e.handshake_phase wanted e.cause.kind (start_of wanted old first) (checkpoint (point new after) last)
+  pub unnamed_stopped : {given : List Given} (connection : Connection) (old new : State) (after : ℤ) (first last : Ledgers) (reply : HelloReply) (e : EstablishError) → ShookHands given over opened connection (start_of over old first) (checkpoint (point new after) last) reply → UnnamedService connection pending.generation e
+      → StoppedIn given e.handshake_phase wanted e.cause.kind (start_of wanted old first) (checkpoint (point new after) last)
   unnamed_stopped connection old new after first last reply e s u =
       let description : u.description ≡ s.script.greeting.description = same_description u.description s.script.greeting.description (sym u.described ∙ s.described.holds.description_is) in
       let unnamed : NoService pending.generation s.script.greeting.description e.cause.kind = (u.kind_is, subst (λ d. NamesService pending.generation d → ⊥) description u.unnamed) in

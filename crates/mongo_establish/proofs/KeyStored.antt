@@ -5,6 +5,7 @@ use Rattle.mongo_wire.specs.declared.error.ErrorKind.{ErrorKind}
 use Rattle.mongo_wire.specs.declared.error.ErrorKind.TheVariants.{IncompatibleServer, OutOfMemory}
 use Rattle.mongo_wire.specs.declared.frame_buffer.FrameBuffer.{FrameBuffer}
 use Rattle.mongo_wire.specs.Outside.{State, Unfailed}
+use Rattle.mongo_command.specs.Helper.{Given}
 use Rattle.mongo_command.specs.declared.connection.Connection.{Connection}
 use Rattle.mongo_command.specs.declared.stream_description.StreamDescription.{StreamDescription}
 use Rattle.mongo_command.specs.Conversation.{refuses, ends, HasNone, ending, Reached, Stopped}
@@ -202,11 +203,11 @@ abbrev pub UnnamedCosts : Setup → ErrorKind → Checkpoint → Checkpoint → 
 UnnamedCosts setup kind old new = (kind ≡ IncompatibleServer) × ((greeting : Greeting) × HandshakeCosts setup greeting old new)
 
 -- one that was stopped, or whose server named no service
-pub establishment_spent : (phase : HandshakePhase) (setup : Setup) (kind : ErrorKind) (old new : State) (after : ℤ) (first last : Ledgers) → StoppedIn phase setup kind (start_of setup old first) (checkpoint (point new after) last)
+pub establishment_spent : (given : List Given) (phase : HandshakePhase) (setup : Setup) (kind : ErrorKind) (old new : State) (after : ℤ) (first last : Ledgers) → StoppedIn given phase setup kind (start_of setup old first) (checkpoint (point new after) last)
     → KeySpent (derivation_plan setup) kind (checkpoint (point old setup.first_id) first) (checkpoint (point new after) last) ⊎ UnnamedCosts setup kind (checkpoint (point old setup.first_id) first) (checkpoint (point new after) last)
 unfolding derivation_plan login_derivation
-establishment_spent (PreHello generation) setup kind old new after first last (is, stopped, nothing) = inl (inl (record { stopped = (stopped.0, stopped_first (hello_plan setup) (login_derivation setup) kind old new setup.first_id after stopped.1); nothing = nothing }))
-establishment_spent (PostHello generation) setup kind old new after first last s =
+establishment_spent given (PreHello generation) setup kind old new after first last (asked, is, stopped, nothing) = inl (inl (record { stopped = (stopped.0, stopped_first (hello_plan setup) (login_derivation setup) kind old new setup.first_id after stopped.1); nothing = nothing }))
+establishment_spent given (PostHello generation) setup kind old new after first last s =
     let made = hello_made setup s.greeting old s.middle.state setup.first_id s.middle.id s.hello in
     elim s.stopped [
       | inl l ↦ inl (spent_after (hello_plan setup) (login_derivation setup) s.greeting kind s.middle.state s.middle.id (checkpoint (point old setup.first_id) first) (checkpoint (point new after) last) s.hello
@@ -253,10 +254,10 @@ unnamed_entries P (Ok pooled) connection pool u = tt
 unnamed_entries P (Err e) connection pool u = inl u.kind_is
 
 -- one that was refused
-pub refused_led : (e : EstablishError) (setup : Setup) (old new : State) (after : ℤ) (first last : Ledgers) → StoppedIn e.handshake_phase setup e.cause.kind (start_of setup old first) (checkpoint (point new after) last) → (e.cause.kind ≡ IncompatibleServer → ⊥) → CostsAsLed {T = PooledConnection} (Err e) setup old new first last
-refused_led e setup old new after first last s other = record {
+pub refused_led : (given : List Given) (e : EstablishError) (setup : Setup) (old new : State) (after : ℤ) (first last : Ledgers) → StoppedIn given e.handshake_phase setup e.cause.kind (start_of setup old first) (checkpoint (point new after) last) → (e.cause.kind ≡ IncompatibleServer → ⊥) → CostsAsLed {T = PooledConnection} (Err e) setup old new first last
+refused_led given e setup old new after first last s other = record {
   over = λ bytes is unfailed.
-      elim (establishment_spent e.handshake_phase setup e.cause.kind old new after first last s) [
+      elim (establishment_spent _ e.handshake_phase setup e.cause.kind old new after first last s) [
         | inl spent ↦ elim (spends_led setup e.cause.kind bytes (checkpoint (point old setup.first_id) first) (checkpoint (point new after) last) spent is unfailed) [
           | inl memory ↦ inl memory
           | inr led ↦ inr (inr (record { other = other; led = led }))
@@ -265,5 +266,5 @@ refused_led e setup old new after first last s other = record {
       ];
 }
 
-pub refused_compatible : (e : EstablishError) (cause : Error) (setup : Setup) (opened connection : Connection) (old new : State) (after : ℤ) (first last : Ledgers) → e.cause ≡ cause → StoppedHandshake setup opened connection cause.kind (start_of setup old first) (checkpoint (point new after) last) → e.cause.kind ≡ IncompatibleServer → ⊥
+pub refused_compatible : {given : List Given} (e : EstablishError) (cause : Error) (setup : Setup) (opened connection : Connection) (old new : State) (after : ℤ) (first last : Ledgers) → e.cause ≡ cause → StoppedHandshake given setup opened connection cause.kind (start_of setup old first) (checkpoint (point new after) last) → e.cause.kind ≡ IncompatibleServer → ⊥
 refused_compatible e cause setup opened connection old new after first last same s is = compatible setup opened connection cause.kind old new after first last s (sym (ap (λ (c : Error). c.kind) same) ∙ is)

@@ -5,8 +5,9 @@ use Rattle.mongo_wire.specs.declared.error.ErrorKind.{ErrorKind}
 use Rattle.mongo_wire.specs.declared.error.ErrorKind.TheVariants.{Authentication}
 use Rattle.mongo_wire.specs.declared.auth_fault.AuthFault.TheVariants.{MongoDbCr as MongoDbCrFault}
 use Rattle.mongo_wire.specs.Outside.{State}
+use Rattle.mongo_command.specs.Helper.{Given}
 use Rattle.mongo_command.specs.declared.stream_description.StreamDescription.{StreamDescription}
-use Rattle.mongo_command.specs.Conversation.{HasNone, Reached, StoppedKeeping}
+use Rattle.mongo_command.specs.Conversation.{HasNone, Reached, StoppedKeeping, ReachedGiven, StoppedGiven}
 use Rattle.mongo_command.specs.Exchange.{point}
 use Rattle.mongo_command.proofs.Steps.{reached_ending, reached_unless, reached_reading, stopped_unless, stopped_reading}
 use Rattle.mongo_sasl.specs.declared.credential.Credential.{Credential}
@@ -105,14 +106,14 @@ takes_it (Some reply) speculated mechanism credential is taken = tt
 
 -- ---- a mechanism's plan
 
-validated_reached : (mechanism : AuthMechanism) (conversation : Conversation) (setup : Setup) (credential : Credential) (greeting : Greeting) (old new : State) (before after : ℤ) → HasConversation mechanism conversation → HasNone (InvalidRow (speculative_reply setup greeting) mechanism credential)
-    → Reached (conversation_plan conversation setup credential greeting) greeting (point old before) (point new after) → Reached (mechanism_plan mechanism setup credential greeting) greeting (point old before) (point new after)
+validated_reached : {given : List Given} (mechanism : AuthMechanism) (conversation : Conversation) (setup : Setup) (credential : Credential) (greeting : Greeting) (old new : State) (before after : ℤ) → HasConversation mechanism conversation → HasNone (InvalidRow (speculative_reply setup greeting) mechanism credential)
+    → ReachedGiven given (conversation_plan conversation setup credential greeting) greeting (point old before) (point new after) → ReachedGiven given (mechanism_plan mechanism setup credential greeting) greeting (point old before) (point new after)
 unfolding mechanism_plan
 validated_reached mechanism conversation setup credential greeting old new before after has none r =
     reached_reading (HasConversation mechanism) (validated mechanism setup credential greeting) conversation greeting old new before after has (reached_unless _ _ greeting old new before after none r)
 
-validated_stopped : {kept : Option ErrorKind} (mechanism : AuthMechanism) (conversation : Conversation) (setup : Setup) (credential : Credential) (greeting : Greeting) (kind : ErrorKind) (old new : State) (before after : ℤ) → HasConversation mechanism conversation → HasNone (InvalidRow (speculative_reply setup greeting) mechanism credential)
-    → StoppedKeeping (conversation_plan conversation setup credential greeting) kind (point old before) (point new after) kept → StoppedKeeping (mechanism_plan mechanism setup credential greeting) kind (point old before) (point new after) kept
+validated_stopped : {given : List Given} {kept : Option ErrorKind} (mechanism : AuthMechanism) (conversation : Conversation) (setup : Setup) (credential : Credential) (greeting : Greeting) (kind : ErrorKind) (old new : State) (before after : ℤ) → HasConversation mechanism conversation → HasNone (InvalidRow (speculative_reply setup greeting) mechanism credential)
+    → StoppedGiven given (conversation_plan conversation setup credential greeting) kind (point old before) (point new after) kept → StoppedGiven given (mechanism_plan mechanism setup credential greeting) kind (point old before) (point new after) kept
 unfolding mechanism_plan
 validated_stopped mechanism conversation setup credential greeting kind old new before after has none s =
     stopped_reading (HasConversation mechanism) (validated mechanism setup credential greeting) conversation kind old new before after has (stopped_unless _ _ kind old new before after none s)
@@ -132,15 +133,15 @@ module _ (setup : Setup) (greeting : Greeting) (credential : Credential) (round 
   pub went_by : IsRoundBy (Some conversation) credential setup greeting round
   went_by = record { there = went.there; scram = λ scram. went.scram (begun_by_scram credential.mechanism (speculative_reply setup greeting) greeting.description mechanism by_mechanism (subst IsScram (sym has) scram)) }
 
-  login_reached : (old new : State) (before after : ℤ) → Reached (mechanism_plan mechanism setup credential greeting) greeting (point old before) (point new after) → Reached (login_plan setup greeting) greeting (point old before) (point new after)
+  login_reached : {given : List Given} (old new : State) (before after : ℤ) → ReachedGiven given (mechanism_plan mechanism setup credential greeting) greeting (point old before) (point new after) → ReachedGiven given (login_plan setup greeting) greeting (point old before) (point new after)
   unfolding login_plan
-  login_reached old new before after r =
-      subst (λ w. Reached (login_by w setup greeting) greeting (point old before) (point new after)) (sym (a_user setup greeting credential holds who)) (reached_reading (IsMechanism credential.mechanism (speculative_reply setup greeting) greeting.description) (λ m. mechanism_plan m setup credential greeting) mechanism greeting old new before after by_mechanism r)
+  login_reached {given = given} old new before after r =
+      subst (λ w. ReachedGiven given (login_by w setup greeting) greeting (point old before) (point new after)) (sym (a_user setup greeting credential holds who)) (reached_reading (IsMechanism credential.mechanism (speculative_reply setup greeting) greeting.description) (λ m. mechanism_plan m setup credential greeting) mechanism greeting old new before after by_mechanism r)
 
-  login_stopped : {kept : Option ErrorKind} (kind : ErrorKind) (old new : State) (before after : ℤ) → StoppedKeeping (mechanism_plan mechanism setup credential greeting) kind (point old before) (point new after) kept → StoppedKeeping (login_plan setup greeting) kind (point old before) (point new after) kept
+  login_stopped : {given : List Given} {kept : Option ErrorKind} (kind : ErrorKind) (old new : State) (before after : ℤ) → StoppedGiven given (mechanism_plan mechanism setup credential greeting) kind (point old before) (point new after) kept → StoppedGiven given (login_plan setup greeting) kind (point old before) (point new after) kept
   unfolding login_plan
-  login_stopped {kept = kept} kind old new before after s =
-      subst (λ w. StoppedKeeping (login_by w setup greeting) kind (point old before) (point new after) kept) (sym (a_user setup greeting credential holds who)) (stopped_reading (IsMechanism credential.mechanism (speculative_reply setup greeting) greeting.description) (λ m. mechanism_plan m setup credential greeting) mechanism kind old new before after by_mechanism s)
+  login_stopped {given = given} {kept = kept} kind old new before after s =
+      subst (λ w. StoppedGiven given (login_by w setup greeting) kind (point old before) (point new after) kept) (sym (a_user setup greeting credential holds who)) (stopped_reading (IsMechanism credential.mechanism (speculative_reply setup greeting) greeting.description) (λ m. mechanism_plan m setup credential greeting) mechanism kind old new before after by_mechanism s)
 
   -- the mechanism doesn't take the credential, which it is asked only where no first round was answered
   invalid_row : (kind : ErrorKind) → is_some round ≡ false → InvalidRow None mechanism credential kind → InvalidRow (speculative_reply setup greeting) mechanism credential kind
@@ -157,10 +158,10 @@ module _ (setup : Setup) (greeting : Greeting) (credential : Credential) (round 
     no_row : HasNone (InvalidRow (speculative_reply setup greeting) mechanism credential)
     no_row = credential_no_row (speculative_reply setup greeting) mechanism credential (takes_it (speculative_reply setup greeting) (is_some round) mechanism credential went.there taken)
 
-    pub conversed_reached : (old new : Checkpoint) → Conversed conversation setup credential greeting old new → Reached (login_plan setup greeting) greeting old.point new.point
+    pub conversed_reached : {given : List Given} (old new : Checkpoint) → Conversed given conversation setup credential greeting old new → ReachedGiven given (login_plan setup greeting) greeting old.point new.point
     conversed_reached old new h = login_reached old.point.state new.point.state old.point.id new.point.id (validated_reached mechanism conversation setup credential greeting old.point.state new.point.state old.point.id new.point.id has no_row h.reached)
 
-    pub conversed_costs : (old new : Checkpoint) → Conversed conversation setup credential greeting old new → LoginCosts setup greeting old new
+    pub conversed_costs : {given : List Given} (old new : Checkpoint) → Conversed given conversation setup credential greeting old new → LoginCosts setup greeting old new
     conversed_costs old new h =
         subst (λ w. LoginCostsOf w setup greeting old new) (sym (a_user setup greeting credential holds who)) (record {
           mechanism = mechanism;
@@ -168,10 +169,10 @@ module _ (setup : Setup) (greeting : Greeting) (credential : Credential) (round 
           costs = subst (λ o. AcceptedCosts (scram_in o) setup credential greeting old new) (sym has) h.costs;
         })
 
-    pub stopped_stopped : {kept : Option ErrorKind} (kind : ErrorKind) (old new : Checkpoint) → ConversationStopped conversation setup credential greeting kind kept old new → StoppedKeeping (login_plan setup greeting) kind old.point new.point kept
+    pub stopped_stopped : {given : List Given} {kept : Option ErrorKind} (kind : ErrorKind) (old new : Checkpoint) → ConversationStopped given conversation setup credential greeting kind kept old new → StoppedGiven given (login_plan setup greeting) kind old.point new.point kept
     stopped_stopped kind old new h = login_stopped kind old.point.state new.point.state old.point.id new.point.id (validated_stopped mechanism conversation setup credential greeting kind old.point.state new.point.state old.point.id new.point.id has no_row h.stopped)
 
-    pub stopped_costs : {kept : Option ErrorKind} (kind : ErrorKind) (old new : Checkpoint) → ConversationStopped conversation setup credential greeting kind kept old new → StoppedLoginCosts setup greeting kind old new
+    pub stopped_costs : {given : List Given} {kept : Option ErrorKind} (kind : ErrorKind) (old new : Checkpoint) → ConversationStopped given conversation setup credential greeting kind kept old new → StoppedLoginCosts setup greeting kind old new
     stopped_costs kind old new h =
         subst (λ w. StoppedLoginCostsOf w setup greeting kind old new) (sym (a_user setup greeting credential holds who)) (record {
           mechanism = mechanism;

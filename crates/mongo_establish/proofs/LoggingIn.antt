@@ -2,6 +2,7 @@
 use Rattle.std.proofs.Common.{◌≡◌, ℕ, ℤ, ◌∙◌, refl, subst, sym, true, false, Option, None, Some, Result, Ok, Err, List, [], is_some, IfErr, OnOk}
 use Rattle.mongo_wire.specs.declared.error.Error.{Error}
 use Rattle.mongo_wire.specs.declared.error.ErrorKind.{ErrorKind}
+use Rattle.mongo_command.specs.Helper.{Given}
 use Rattle.mongo_command.specs.declared.connection.Connection.{Connection}
 use Rattle.mongo_command.specs.declared.stream_description.StreamDescription.{StreamDescription}
 use Rattle.mongo_command.specs.Connection.{kept_fault}
@@ -30,7 +31,7 @@ no_row : (conversation : Conversation) → Some conversation ≡ None → ⊥
 no_row conversation is = cc
 
 -- the server holds no users
-pub empty_server : (setup : Setup) (description : StreamDescription) (held : Option StreamDescription) (round : Option AnsweredRound) (old : Checkpoint) → held ≡ Some description → holds_users description.initial_server_type ≡ false → CostsNothing old.ledgers old.ledgers → LogsIn setup held round old old
+pub empty_server : (setup : Setup) (description : StreamDescription) (held : Option StreamDescription) (round : Option AnsweredRound) (old : Checkpoint) → held ≡ Some description → holds_users description.initial_server_type ≡ false → CostsNothing old.ledgers old.ledgers → LogsIn [] setup held round old old
 empty_server setup description held round old is empty nothing =
     let none : (greeting : Greeting) → held ≡ Some greeting.description → holds_users greeting.description.initial_server_type ≡ false =
     λ greeting described. subst (λ d. holds_users d.initial_server_type ≡ false) (same_description description greeting.description (sym is ∙ described)) empty in
@@ -40,7 +41,7 @@ empty_server setup description held round old is empty nothing =
     }
 
 -- there is no credential
-pub no_login : (setup : Setup) (held : Option StreamDescription) (round : Option AnsweredRound) (old : Checkpoint) → setup.credential ≡ None → CostsNothing old.ledgers old.ledgers → LogsIn setup held round old old
+pub no_login : (setup : Setup) (held : Option StreamDescription) (round : Option AnsweredRound) (old : Checkpoint) → setup.credential ≡ None → CostsNothing old.ledgers old.ledgers → LogsIn [] setup held round old old
 no_login setup held round old none nothing = record {
   reached = λ greeting described r. nobody setup greeting old.point.state old.point.id (no_credential setup greeting none);
   costs = λ greeting described r. nobody_costs setup greeting old (no_credential setup greeting none) nothing;
@@ -82,7 +83,7 @@ module _ (opened : Connection) (options : HandshakerOptions) (given : Option Cre
 
   -- the mechanism doesn't take the credential
   pub log_in_invalid : {T : Type 0} (r : Result T Error) (kept : Option ErrorKind) (old : Checkpoint) → kept ≡ None → CostsNothing old.ledgers old.ledgers → IfErr r (λ e. (is_some round ≡ false) × InvalidRow None mechanism credential e.kind)
-      → IfErr r (λ e. LoginStops setup held round e.kind kept old old)
+      → IfErr r (λ e. LoginStops [] setup held round e.kind kept old old)
   log_in_invalid (Ok x) kept old none nothing h = tt
   log_in_invalid (Err e) kept old none nothing h = record {
     stopped = λ greeting described r. subst (StoppedKeeping (login_plan setup greeting) e.kind old.point old.point) (sym none) (invalid_stopped setup greeting credential round mechanism who (users greeting described) (went greeting r) (greeted_mechanism greeting described) found.0 found.1 e.kind old.point.state old.point.id h.0 h.1);
@@ -97,11 +98,11 @@ module _ (opened : Connection) (options : HandshakerOptions) (given : Option Cre
     abbrev this : Option Credential → Setup
     this c = setup_over opened options c nonces id
 
-    here : (r : Result (Unit {0}) Error) (left : Connection) (old new : Checkpoint) → Converses r conversation (this (Some credential)) credential round opened left old new → Converses r conversation setup credential round opened left old new
-    here r left old new h = subst (λ c. Converses r conversation (this c) credential round opened left old new) (sym who) h
+    here : {granted : List Given} (r : Result (Unit {0}) Error) (left : Connection) (old new : Checkpoint) → Converses granted r conversation (this (Some credential)) credential round opened left old new → Converses granted r conversation setup credential round opened left old new
+    here {granted = granted} r left old new h = subst (λ c. Converses granted r conversation (this c) credential round opened left old new) (sym who) h
 
     -- its conversation was followed to its end
-    pub log_in_accepted : (r : Result (Unit {0}) Error) (left : Connection) (old new : Checkpoint) → Converses r conversation (this (Some credential)) credential round opened left old new → OnOk r (LogsIn setup held round old new)
+    pub log_in_accepted : {granted : List Given} (r : Result (Unit {0}) Error) (left : Connection) (old new : Checkpoint) → Converses granted r conversation (this (Some credential)) credential round opened left old new → OnOk r (LogsIn granted setup held round old new)
     log_in_accepted (Ok done) left old new h =
         let conversed = (here (Ok done) left old new h).accepted in
         record {
@@ -111,7 +112,7 @@ module _ (opened : Connection) (options : HandshakerOptions) (given : Option Cre
     log_in_accepted (Err e) left old new h = tt
 
     -- it was stopped
-    pub log_in_stopped : (r : Result (Unit {0}) Error) (left : Connection) (old new : Checkpoint) → Converses r conversation (this (Some credential)) credential round opened left old new → IfErr r (λ e. LoginStops setup held round e.kind (kept_fault left) old new)
+    pub log_in_stopped : {granted : List Given} (r : Result (Unit {0}) Error) (left : Connection) (old new : Checkpoint) → Converses granted r conversation (this (Some credential)) credential round opened left old new → IfErr r (λ e. LoginStops granted setup held round e.kind (kept_fault left) old new)
     log_in_stopped (Ok done) left old new h = tt
     log_in_stopped (Err e) left old new h =
         let stopped = (here (Err e) left old new h).refused in

@@ -2,8 +2,9 @@
 use Rattle.std.proofs.Common.{ℤ, Option, None, Some, List, inl, inr}
 use Rattle.mongo_wire.specs.declared.error.ErrorKind.{ErrorKind}
 use Rattle.mongo_wire.specs.Outside.{State}
+use Rattle.mongo_command.specs.Helper.{Given}
 use Rattle.mongo_command.specs.declared.connection.Connection.{Connection}
-use Rattle.mongo_command.specs.Conversation.{Event, Turn, Reached, StoppedKeeping}
+use Rattle.mongo_command.specs.Conversation.{Event, Turn, ReachedGiven, StoppedGiven}
 use Rattle.mongo_command.specs.Exchange.{point}
 use Rattle.mongo_command.proofs.Steps.{reached_more, stopped_more}
 use Rattle.mongo_sasl.specs.declared.credential.Credential.{Credential}
@@ -45,11 +46,11 @@ module _ (first second : PendingConnection) (options : HandshakerOptions) (crede
   login_alike None greeting past turn h = h
   login_alike (Some c) greeting past turn h = (h.0, h.1, mechanism_alike h.0 c greeting past turn h.2)
 
-  pub reached_alike : (greeting : Greeting) (old new : State) (before after : ℤ) → Reached (login_plan this greeting) greeting (point old before) (point new after) → Reached (login_plan that greeting) greeting (point old before) (point new after)
+  pub reached_alike : {given : List Given} (greeting : Greeting) (old new : State) (before after : ℤ) → ReachedGiven given (login_plan this greeting) greeting (point old before) (point new after) → ReachedGiven given (login_plan that greeting) greeting (point old before) (point new after)
   unfolding login_plan
   reached_alike greeting old new before after r = reached_more (login_plan this greeting) (login_plan that greeting) greeting old new before after (login_alike (logging_in that greeting) greeting) r
 
-  pub stopped_alike : {kept : Option ErrorKind} (greeting : Greeting) (kind : ErrorKind) (old new : State) (before after : ℤ) → StoppedKeeping (login_plan this greeting) kind (point old before) (point new after) kept → StoppedKeeping (login_plan that greeting) kind (point old before) (point new after) kept
+  pub stopped_alike : {given : List Given} {kept : Option ErrorKind} (greeting : Greeting) (kind : ErrorKind) (old new : State) (before after : ℤ) → StoppedGiven given (login_plan this greeting) kind (point old before) (point new after) kept → StoppedGiven given (login_plan that greeting) kind (point old before) (point new after) kept
   unfolding login_plan
   stopped_alike greeting kind old new before after s = stopped_more (login_plan this greeting) (login_plan that greeting) kind old new before after (login_alike (logging_in that greeting) greeting) s
 

@@ -69,7 +69,7 @@ mechanism_ends mechanism setup credential greeting given commands replies is =
 login_by_ended : (who : Option Credential) (setup : Setup) (greeting answer : Greeting) (events : List Event) → PlanEnds (login_by who setup greeting) events answer → EndsBy (IsLoginOf who setup greeting) greeting (greeted_maximum greeting) events answer
 login_by_ended None setup greeting answer events e =
     let last = ends_ending greeting events answer e in
-    (last.1, (ap given_in last.0, (ap documents_in last.0, ap replies_in last.0)), subst (AreWithin (greeted_maximum greeting)) (sym last.0) tt)
+    (last.1, (ap given_in last.0, ap documents_in last.0, ap replies_in last.0), subst (AreWithin (greeted_maximum greeting)) (sym last.0) tt)
 login_by_ended (Some credential) setup greeting answer events e =
     let reads = IsMechanism credential.mechanism (speculative_reply setup greeting) greeting.description in
     let read = ends_reading reads (λ mechanism. mechanism_plan mechanism setup credential greeting) events answer (one_mechanism credential.mechanism (speculative_reply setup greeting) greeting.description) e in

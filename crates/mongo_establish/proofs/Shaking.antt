@@ -1,9 +1,10 @@
 -- What a handshake over a connection answers, step by step.
-use Rattle.std.proofs.Common.{◌≡◌, ℕ, ℤ, ◌∙◌, refl, ap, subst, sym, inl, inr, is_some, Option, None, option_map, Result, Ok, Err, List, IfErr, OnOk}
+use Rattle.std.proofs.Common.{◌≡◌, ℕ, ℤ, ◌∙◌, refl, ap, subst, sym, inl, inr, is_some, Option, None, option_map, Result, Ok, Err, List, IfErr, OnOk, []}
 use Rattle.std.specs.Result.{IsErrAnd}
 use Rattle.mongo_wire.specs.declared.error.Error.{Error}
 use Rattle.mongo_wire.specs.declared.error.ErrorKind.{ErrorKind}
 use Rattle.mongo_wire.specs.Outside.{State}
+use Rattle.mongo_command.specs.Helper.{Given}
 use Rattle.mongo_command.specs.declared.connection.Connection.{Connection}
 use Rattle.mongo_command.specs.declared.hello.HelloReply.{HelloReply}
 use Rattle.mongo_command.specs.Connection.{kept_fault, KeepsRest}
@@ -29,7 +30,7 @@ use Rattle.mongo_establish.specs.Greeting.{Greeting, greeting_in}
 use Rattle.mongo_establish.specs.LoggingIn.{LogsIn, LoginStops}
 use Rattle.mongo_establish.specs.Plan.{hello_exchange, hello_plan}
 use Rattle.mongo_establish.specs.Speculation.{HelloRow, answer_to, left_in, speculation}
-use Rattle.mongo_establish.proofs.EstablishedScript.{handshake_reached, script_by, scripted_by}
+use Rattle.mongo_establish.proofs.EstablishedScript.{handshake_reached, script_by, script_given, scripted_by}
 use Rattle.mongo_establish.proofs.FirstRounds.{first_speculation, round_of}
 use Rattle.mongo_establish.proofs.HelloBody.{unmade_refused}
 use Rattle.mongo_establish.proofs.HelloExchange.{unbuilt}
@@ -76,10 +77,10 @@ module _ (opened : Connection) (options : HandshakerOptions) (credential : Optio
     unmade_keeping : (kind : ErrorKind) (old : State) → NoFirst kind → StoppedKeeping (hello_plan setup) kind (point old id) (point old id) None
     unmade_keeping kind old h = at_once_keeping (hello_plan setup) kind old id (unmade kind h)
 
-    pub unmade_stopped : {T : Type 0} (r : Result T Error) (old : State) (first last : Ledgers) → kept_fault opened ≡ None → CostsNothing first last → IfErr r (λ e. NoFirst e.kind) → IfErr r (λ e. StoppedHandshake setup opened opened e.kind (start_of setup old first) (checkpoint (point old id) last))
+    pub unmade_stopped : {T : Type 0} (r : Result T Error) (old : State) (first last : Ledgers) → kept_fault opened ≡ None → CostsNothing first last → IfErr r (λ e. NoFirst e.kind) → IfErr r (λ e. StoppedHandshake [] setup opened opened e.kind (start_of setup old first) (checkpoint (point old id) last))
     unmade_stopped (Ok x) old first last faultless nothing h = tt
     unmade_stopped (Err e) old first last faultless nothing h =
-        inl (record { hello = subst (StoppedKeeping (hello_plan setup) e.kind (point old id) (point old id)) (sym faultless) (unmade_keeping e.kind old h); costs = nothing; undescribed = fresh; rest = keeps_all opened })
+        inl (refl, record { hello = subst (StoppedKeeping (hello_plan setup) e.kind (point old id) (point old id)) (sym faultless) (unmade_keeping e.kind old h); costs = nothing; undescribed = fresh; rest = keeps_all opened })
 
   -- ---- the hello
 
@@ -98,9 +99,9 @@ module _ (opened : Connection) (options : HandshakerOptions) (credential : Optio
         reached_unless _ _ greeting old new id after made (subst (λ login. Reached (hello_exchange options credential login opened.address) greeting (point old id) (point new after)) (first_speculation credential nonces.first first is_first) r)
 
     pub ungreeted_stopped : {T : Type 0} (r : Result T Error) (connection : Connection) (old new : State) (after : ℤ) (first last : Ledgers) → CostsNothing first last → IfErr r (λ e. UngreetedBy options credential sent e.kind (footing opened old id) (footing connection new after))
-        → IfErr r (λ e. StoppedHandshake setup opened connection e.kind (start_of setup old first) (checkpoint (point new after) last))
+        → IfErr r (λ e. StoppedHandshake [] setup opened connection e.kind (start_of setup old first) (checkpoint (point new after) last))
     ungreeted_stopped (Ok x) connection old new after first last nothing h = tt
-    ungreeted_stopped (Err e) connection old new after first last nothing h = inl (record { hello = stopped_so e.kind old new after h.stopped; costs = nothing; undescribed = h.undescribed; rest = h.rest })
+    ungreeted_stopped (Err e) connection old new after first last nothing h = inl (refl, record { hello = stopped_so e.kind old new after h.stopped; costs = nothing; undescribed = h.undescribed; rest = h.rest })
 
     -- ---- the login
 
@@ -131,10 +132,10 @@ module _ (opened : Connection) (options : HandshakerOptions) (credential : Optio
             token = later.token ∙ holds.token;
           }
 
-      pub login_stopped : {T : Type 0} (r : Result T Error) (connection : Connection) (new : State) (after : ℤ) (first last : Ledgers) → KeepsRest described connection
-          → IfErr r (λ e. LoginStops anew described.stream_description round e.kind (kept_fault connection) (checkpoint (point middle between) first) (checkpoint (point new after) last)) → IfErr r (λ e. StoppedHandshake setup opened connection e.kind (start_of setup old first) (checkpoint (point new after) last))
-      login_stopped (Ok x) connection new after first last later h = tt
-      login_stopped (Err e) connection new after first last later h = inr (record {
+      pub login_stopped : (given : List Given) {T : Type 0} (r : Result T Error) (connection : Connection) (new : State) (after : ℤ) (first last : Ledgers) → KeepsRest described connection
+          → IfErr r (λ e. LoginStops given anew described.stream_description round e.kind (kept_fault connection) (checkpoint (point middle between) first) (checkpoint (point new after) last)) → IfErr r (λ e. StoppedHandshake given setup opened connection e.kind (start_of setup old first) (checkpoint (point new after) last))
+      login_stopped given (Ok x) connection new after first last later h = tt
+      login_stopped given (Err e) connection new after first last later h = inr (record {
         greeting = greeting;
         middle = point middle between;
         hello = hello_reached;
@@ -155,13 +156,14 @@ module _ (opened : Connection) (options : HandshakerOptions) (credential : Optio
             speculative = ap (λ login. left_in login reply.command_response.speculative_authenticate) (first_speculation credential nonces.first first is_first);
           })
 
-      pub shook : (connection : Connection) (new : State) (after : ℤ) (first last : Ledgers) (answer : HelloReply) → KeepsRest described connection → kept_fault connection ≡ None → answer ≡ taken_out reply sent
-          → LogsIn anew described.stream_description round (checkpoint (point middle between) first) (checkpoint (point new after) last) → ShookHands setup opened connection (start_of setup old first) (checkpoint (point new after) last) answer
+      pub shook : {given : List Given} (connection : Connection) (new : State) (after : ℤ) (first last : Ledgers) (answer : HelloReply) → KeepsRest described connection → kept_fault connection ≡ None → answer ≡ taken_out reply sent
+          → LogsIn given anew described.stream_description round (checkpoint (point middle between) first) (checkpoint (point new after) last) → ShookHands given setup opened connection (start_of setup old first) (checkpoint (point new after) last) answer
       shook connection new after first last answer later faultless is h =
           let login = reached_alike (pending_over described) (pending_over opened) options credential nonces between id greeting middle new between after (h.reached greeting greeted.described.holds.description_is held_round) in
           let whole = handshake_reached setup greeting old middle new between after hello_reached login in
           record {
             script = script_by setup greeting old new after whole tt;
+            given_is = script_given setup greeting old new after whole tt;
             scripted = scripted_by setup greeting old new after whole tt;
             middle = point middle between;
             hello = hello_reached;

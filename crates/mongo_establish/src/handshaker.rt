@@ -42,11 +42,12 @@ impl Drop for Handshaker {
 }
 
 impl Handshaker {
-    ghost use Rattle.std.specs.Prelude.{◌≡◌, ◌⊎◌, List, ℕ, None, Some, option_copied, option_map, IfOk, IfErr, OnErr};
+    ghost use Rattle.std.specs.Prelude.{◌≡◌, ◌⊎◌, List, [], ℕ, None, Some, option_copied, option_map, IfOk, IfErr, OnErr};
     ghost use Rattle.mongo_wire.specs.declared.error.ErrorKind.TheVariants.{OutOfMemory};
     ghost use Rattle.mongo_wire.specs.Outside.{Unfailed};
     ghost use Rattle.mongo_command.specs.Connection.{kept_fault};
-    ghost use Rattle.mongo_command.specs.Conversation.{Said, Turn, refuses, Leads, LeftBy};
+    ghost use Rattle.mongo_command.specs.Helper.{Given};
+    ghost use Rattle.mongo_command.specs.Conversation.{Said, Turn, refuses, LeadsGiven, LeftBy};
     ghost use Rattle.mongo_command.specs.EndsExchange.{footing};
     ghost use Rattle.mongo_command.specs.Exchange.{CountsStay, DocumentRefused, point};
     ghost use Rattle.mongo_scram.specs.Cache.{entries_of};
@@ -107,12 +108,12 @@ impl Handshaker {
 
         // What was written and read is exactly a script, the connection and the reply are what its replies say, and so is what was
         // derived.
-        ensures shook { IfOk result (ShookHands (setup_over connection.old (options_in self.now) (option_copied credential.entry) inputs.now.nonces state.old.ids) connection.old connection.new
+        ensures shook { IfOk result (ShookHands [] (setup_over connection.old (options_in self.now) (option_copied credential.entry) inputs.now.nonces state.old.ids) connection.old connection.new
             (checkpoint_with (L.state link.old) state.old steps.old) (checkpoint_with (L.state link.new) state.new steps.new)) }
 
         // A refusal says why it comes, how far the handshake had come, what it left and what was derived: the connection keeps the
         // fault of an exchange that failed, where that left one, and else none.
-        ensures refused { IfErr result (λ e. StoppedHandshake (setup_over connection.old (options_in self.now) (option_copied credential.entry) inputs.now.nonces state.old.ids) connection.old connection.new e.kind
+        ensures refused { IfErr result (λ e. StoppedHandshake [] (setup_over connection.old (options_in self.now) (option_copied credential.entry) inputs.now.nonces state.old.ids) connection.old connection.new e.kind
             (checkpoint_with (L.state link.old) state.old steps.old) (checkpoint_with (L.state link.new) state.new steps.new)) }
 
         // A script's replies at the front of the bytes left are answered by Ok, unless the link fails or memory runs out.
@@ -121,10 +122,10 @@ impl Handshaker {
             IfErr result (λ e. e.kind ≡ OutOfMemory) }
 
         // Bytes left that call for a refusal get just that one, and the link is left as it says; those that lead to an end get none.
-        ensures exact { (bytes taken unread : List ℕ) (outcome : Turn Greeting) (commands : List Said) → (L.state link.old).left ≡ Some bytes →
-            Leads (handshake_plan (setup_over connection.old (options_in self.now) (option_copied credential.entry) inputs.now.nonces state.old.ids)) bytes outcome commands taken unread →
+        ensures exact { (granted : List Given) (bytes taken unread : List ℕ) (outcome : Turn Greeting) (commands : List Said) → (L.state link.old).left ≡ Some bytes →
+            LeadsGiven granted (handshake_plan (setup_over connection.old (options_in self.now) (option_copied credential.entry) inputs.now.nonces state.old.ids)) bytes outcome commands taken unread →
             Unfailed (L.state link.old) (L.state link.new) →
-            IfErr result (λ e. (e.kind ≡ OutOfMemory) ⊎ ((outcome ≡ refuses e.kind) × LeftBy commands unread
+            IfErr result (λ e. (e.kind ≡ OutOfMemory) ⊎ ((granted ≡ []) × (outcome ≡ refuses e.kind) × LeftBy commands unread
             (point (L.state link.old) state.old.ids) (point (L.state link.new) state.new.ids))) }
 
         ensures entries { OnErr result (entries_of state.new.salted ≡ entries_of state.old.salted) }

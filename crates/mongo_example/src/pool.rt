@@ -25,7 +25,7 @@ pub struct Pool {
 }
 
 impl Pool {
-    ghost use Rattle.std.specs.Prelude.{◌≡◌, ◌+◌, ◌-◌, ◌^◌, ◌≤◌, min, IfOk, IfErr, OnOk, OnErr};
+    ghost use Rattle.std.specs.Prelude.{◌≡◌, ◌+◌, ◌-◌, ◌^◌, ◌≤◌, min, [], IfOk, IfErr, OnOk, OnErr};
     ghost use Rattle.mongo_wire.specs.declared.error.ErrorKind.TheVariants.{OutOfMemory};
     ghost use Rattle.mongo_scram.specs.Cache.{rounds_of};
     ghost use Rattle.mongo_scram.specs.Costs.{ledgers};
@@ -83,7 +83,7 @@ impl Pool {
     ) -> Result<PooledConnection, EstablishError>
         ensures ready { IfOk result (IsReady pending) }
         // All that `establish_connection` promises: of the connection or the refusal, of the link, of the counter and of the keys.
-        ensures ended { EndsEstablishment (setup_by_pool self.old pending inputs.now.nonces)
+        ensures ended { EndsEstablishment [] (setup_by_pool self.old pending inputs.now.nonces)
             (checkpoint_with (L.state link.old) self.old.state steps.old) (checkpoint_with (L.state link.new) self.new.state steps.new) result }
         // The pool's rounds don't fall.
         ensures rounds { rounds_of self.old.state.salted ≤ rounds_of self.new.state.salted }

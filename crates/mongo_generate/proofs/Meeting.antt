@@ -66,12 +66,12 @@ row_by Sha256 credential kind row = row
 
 -- which was answered in the hello, so that its mechanism isn't asked whether it takes the credential
 login_answered_in_hello : (version : ScramVersion) (setup : Setup) (credential : Credential) (greeting : Greeting) (given : List ℕ) (commands replies : List (List ℕ)) → speculative_reply setup greeting ≡ Some given → IsScramLogin (scram_handed_by version setup credential greeting) commands replies
-    → IsLoginBy (mechanism_of version) setup credential greeting commands replies
+    → IsLoginBy (mechanism_of version) setup credential greeting [] commands replies
 login_answered_in_hello version setup credential greeting given commands replies is login = record {
   taken = subst (λ reply. ValidatesCredential reply (mechanism_of version) credential) (sym is) tt;
   conversation = Scram version;
   has_conversation = has_scram version;
-  holds = login;
+  holds = (refl, login);
 }
 
 derivation_ends : (version : ScramVersion) (setup : Setup) (credential : Credential) (greeting : Greeting) (key : SaltedKey) → HasNone (InvalidRow (speculative_reply setup greeting) (mechanism_of version) credential) → PlanEnds (scram_derivation version setup credential greeting) [] (Some key)
@@ -207,7 +207,7 @@ module _ (pending : PendingConnection) (x : Authentication) (nonces : Nonces) (b
   -- ---- the script
 
   abbrev script : Script
-  script = record { commands = hello_document setup ∷ close_document (close_of x) ∷ []; replies = hello_heard ∷ final_heard ∷ []; greeting = greeting }
+  script = record { given = []; commands = hello_document setup ∷ close_document (close_of x) ∷ []; replies = hello_heard ∷ final_heard ∷ []; greeting = greeting }
 
   is_login : IsScramLogin handed (close_document (close_of x) ∷ []) (final_heard ∷ [])
   is_login = record {

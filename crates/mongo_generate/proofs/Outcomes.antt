@@ -4,6 +4,7 @@ use Rattle.std.specs.Io.KnownBytes.{Appends}
 use Rattle.mongo_wire.specs.Outside.{State, Rose}
 use Rattle.mongo_wire.specs.declared.error.ErrorKind.{ErrorKind}
 use Rattle.mongo_wire.specs.declared.error.ErrorKind.TheVariants.{IncompatibleServer, OutOfMemory}
+use Rattle.mongo_command.specs.Helper.{Given}
 use Rattle.mongo_command.specs.Exchange.{point}
 use Rattle.mongo_scram.proofs.Derived.{costs_nothing}
 use Rattle.mongo_scram.specs.declared.cache.SaltedCache.{SaltedCache}
@@ -45,7 +46,7 @@ never_refused (Ok pooled) memory is = is
 never_refused (Err e) memory is = is memory
 
 -- what is written is the script's
-sent_by : (setup : Setup) (bytes : List ℕ) (old new : State) (after : ℤ) (first last : Ledgers) (pooled : PooledConnection) (h : HasScript setup bytes) → Established setup (start_of setup old first) (checkpoint (point new after) last) pooled → old.left ≡ Some bytes → Appends old.written new.written h.sent
+sent_by : {given : List Given} (setup : Setup) (bytes : List ℕ) (old new : State) (after : ℤ) (first last : Ledgers) (pooled : PooledConnection) (h : HasScript setup bytes) → Established given setup (start_of setup old first) (checkpoint (point new after) last) pooled → old.left ≡ Some bytes → Appends old.written new.written h.sent
 sent_by setup bytes old new after first last pooled h e is =
     let s = e.scripted in
     let t = s.taken bytes is in
@@ -67,16 +68,16 @@ module _ (pending : PendingConnection) (options : HandshakerOptions) (first_id :
   has_its_script = subst (λ a. HasScript a bytes) (sym same) script_for
 
   -- what was written carries the client's last message
-  pub writes_close : (old new : State) (after : ℤ) (earlier later : Ledgers) (pooled : PooledConnection) (written : List ℕ) → Established setup (start_of setup old earlier) (checkpoint (point new after) later) pooled → old.left ≡ Some bytes → old.written ≡ Some [] → new.written ≡ Some written → CarriesPayloadLast (close_of x) written
-  writes_close old new after earlier later pooled written e is nothing all =
-      let there = subst (λ a. Established a (start_of a old earlier) (checkpoint (point new after) later) pooled) same e in
+  pub writes_close : {given : List Given} (old new : State) (after : ℤ) (earlier later : Ledgers) (pooled : PooledConnection) (written : List ℕ) → Established given setup (start_of setup old earlier) (checkpoint (point new after) later) pooled → old.left ≡ Some bytes → old.written ≡ Some [] → new.written ≡ Some written → CarriesPayloadLast (close_of x) written
+  writes_close {given = given} old new after earlier later pooled written e is nothing all =
+      let there = subst (λ a. Established given a (start_of a old earlier) (checkpoint (point new after) later) pooled) same e in
       let sent = sent_by (setup_by_client pending x login.inputs.nonces) bytes old new after earlier later pooled script_for there is in
       let grown : Appends (Some []) (Some written) script_for.sent = subst (λ w. Appends w (Some written) script_for.sent) nothing (subst (λ w. Appends old.written w script_for.sent) all sent) in
       carries pending x login.inputs.nonces bytes logs.possible logs.nonce_is pool heard written (grown ∙ sent_is pending x login.inputs.nonces bytes logs.possible logs.nonce_is pool heard)
 
-  pub accepted_writes : (ended : Result PooledConnection EstablishError) (old new : State) (after : ℤ) (earlier later : Ledgers) (written : List ℕ) → IsAcceptedAs ended true → IfOk ended (Established setup (start_of setup old earlier) (checkpoint (point new after) later)) → old.left ≡ Some bytes → old.written ≡ Some [] → new.written ≡ Some written → CarriesPayloadLast (close_of x) written
-  accepted_writes (Ok pooled) old new after earlier later written is e told nothing all = writes_close old new after earlier later pooled written e told nothing all
-  accepted_writes (Err e) old new after earlier later written is none told nothing all = absurd is
+  pub accepted_writes : (given : List Given) (ended : Result PooledConnection EstablishError) (old new : State) (after : ℤ) (earlier later : Ledgers) (written : List ℕ) → IsAcceptedAs ended true → IfOk ended (Established given setup (start_of setup old earlier) (checkpoint (point new after) later)) → old.left ≡ Some bytes → old.written ≡ Some [] → new.written ≡ Some written → CarriesPayloadLast (close_of x) written
+  accepted_writes given (Ok pooled) old new after earlier later written is e told nothing all = writes_close old new after earlier later pooled written e told nothing all
+  accepted_writes given (Err e) old new after earlier later written is none told nothing all = absurd is
 
   -- and its key was taken
   pub takes_key : (before after : Ledgers) (pooled : PooledConnection) → CostsOver (Ok pooled) setup bytes before after → StoresKey (key_of x) before after
@@ -91,16 +92,16 @@ module _ (pending : PendingConnection) (options : HandshakerOptions) (first_id :
 -- ---- whatever comes of it
 
 -- what a connection's establishment wrote over a server's replies is two frames, and the second carries a payload, whoever the server's user is
-pub accepted_carries : (pending : PendingConnection) (options : HandshakerOptions) (first_id : ℤ) (login : UserLogin) (bytes : List ℕ) → AreServerReplies bytes → options ≡ handshaker_options → IsTrue (is_scram login.credential.mechanism) → login.credential.source ≡ None
-    → (ended : Result PooledConnection EstablishError) (old new : State) (after : ℤ) (earlier later : Ledgers) (written : List ℕ) → IsAcceptedAs ended true → IfOk ended (Established (setup_for pending options (Some login.credential) login.inputs.nonces first_id) (checkpoint (point old first_id) earlier) (checkpoint (point new after) later)) → old.left ≡ Some bytes → old.written ≡ Some [] → new.written ≡ Some written → CarriesAnyLast written
-accepted_carries pending options first_id login bytes (server_first, server_final, replies) usual scram of_admin (Ok pooled) old new after earlier later written is e told nothing all =
-    let there = subst (λ o. Established (setup_for pending o (Some login.credential) login.inputs.nonces first_id) (checkpoint (point old first_id) earlier) (checkpoint (point new after) later) pooled) usual e in
+pub accepted_carries : (given : List Given) (pending : PendingConnection) (options : HandshakerOptions) (first_id : ℤ) (login : UserLogin) (bytes : List ℕ) → AreServerReplies bytes → options ≡ handshaker_options → IsTrue (is_scram login.credential.mechanism) → login.credential.source ≡ None
+    → (ended : Result PooledConnection EstablishError) (old new : State) (after : ℤ) (earlier later : Ledgers) (written : List ℕ) → IsAcceptedAs ended true → IfOk ended (Established given (setup_for pending options (Some login.credential) login.inputs.nonces first_id) (checkpoint (point old first_id) earlier) (checkpoint (point new after) later)) → old.left ≡ Some bytes → old.written ≡ Some [] → new.written ≡ Some written → CarriesAnyLast written
+accepted_carries given pending options first_id login bytes (server_first, server_final, replies) usual scram of_admin (Ok pooled) old new after earlier later written is e told nothing all =
+    let there = subst (λ o. Established given (setup_for pending o (Some login.credential) login.inputs.nonces first_id) (checkpoint (point old first_id) earlier) (checkpoint (point new after) later) pooled) usual e in
     let s = there.scripted in
     let t = s.taken bytes told in
     let (version, given) = version_in login.credential.mechanism scram in
     let grown : Appends (Some []) (Some written) s.sent = subst (λ w. Appends w (Some written) s.sent) nothing (subst (λ w. Appends old.written w s.sent) all s.written) in
     subst CarriesAnyLast (sym grown) (script_carries pending login.credential version given of_admin login.inputs.nonces first_id server_first server_final bytes replies there.script s.sent t.taken t.rest s.is_script s.is_written t.joined t.is_taken)
-accepted_carries pending options first_id login bytes replies usual scram of_admin (Err e) old new after earlier later written is none told nothing all = absurd is
+accepted_carries given pending options first_id login bytes replies usual scram of_admin (Err e) old new after earlier later written is none told nothing all = absurd is
 
 abbrev AddsOne : Ledgers → Ledgers → Type 0
 AddsOne first last = (key : SaltedKey) × Adds (entries_of first.cache) (entries_of last.cache) (key, salted_of key)

@@ -5,6 +5,7 @@ use Rattle.std.specs.Io.KnownBytes.{Appends, Consumes}
 use Rattle.std.specs.List.{AllByRecursion, concat}
 use Rattle.mongo_wire.specs.declared.error.ErrorKind.{ErrorKind}
 use Rattle.mongo_wire.specs.Outside.{State, Rose, Unfailed, IsFlushed}
+use Rattle.mongo_command.specs.Helper.{Given}
 use Rattle.mongo_command.specs.Conversation.{Said, IsSaid, IsFlushedAfter}
 use Rattle.mongo_command.specs.Exchange.{point}
 use Rattle.mongo_scram.specs.Costs.{Ledgers, checkpoint}
@@ -79,12 +80,12 @@ pub record Replays (settings : Settings) (ended : Result PooledConnection Establ
 
 -- ---- a connection that was made
 
-pub described : (setup : Setup) (old new : State) (after : ℤ) (first last : Ledgers) (ended : Result PooledConnection EstablishError) → IfOk ended (Established setup (start_of setup old first) (checkpoint (point new after) last)) → IfOk ended (λ pooled. IsSome pooled.connection.stream_description)
-described setup old new after first last (Ok pooled) made = rw made.connection.description_is refl
-described setup old new after first last (Err refusal) made = tt
+pub described : (given : List Given) (setup : Setup) (old new : State) (after : ℤ) (first last : Ledgers) (ended : Result PooledConnection EstablishError) → IfOk ended (Established given setup (start_of setup old first) (checkpoint (point new after) last)) → IfOk ended (λ pooled. IsSome pooled.connection.stream_description)
+described given setup old new after first last (Ok pooled) made = rw made.connection.description_is refl
+described given setup old new after first last (Err refusal) made = tt
 
-made : (settings : Settings) (old new : State) (after : ℤ) (first last : Ledgers) (pooled : PooledConnection) (output left : List ℕ) (taken : ℕ) (x : Rehearsal)
-    → Established (setup_of settings) (start_of (setup_of settings) old first) (checkpoint (point new after) last) pooled → Replayed settings.replies output left old new → taken ≡ length settings.replies - length left → ReportsMade output taken pooled x → Replays settings (Ok pooled) old new x
+made : {given : List Given} (settings : Settings) (old new : State) (after : ℤ) (first last : Ledgers) (pooled : PooledConnection) (output left : List ℕ) (taken : ℕ) (x : Rehearsal)
+    → Established given (setup_of settings) (start_of (setup_of settings) old first) (checkpoint (point new after) last) pooled → Replayed settings.replies output left old new → taken ≡ length settings.replies - length left → ReportsMade output taken pooled x → Replays settings (Ok pooled) old new x
 made settings old new after first last pooled output left taken x e p taken_is tells =
     let s = e.scripted in
     let sent : output ≡ s.sent = appended p.front output s.sent old.written new.written p.before p.written_is s.written in
@@ -120,8 +121,8 @@ made settings old new after first last pooled output left taken x e p taken_is t
 
 -- ---- a refusal
 
-told_refusal : (settings : Settings) (kind : ErrorKind) (phase : HandshakePhase) (old new : State) (after : ℤ) (output left : List ℕ) (taken : ℕ) (refusal : EstablishError) (x : Rehearsal)
-    → refusal.cause.kind ≡ kind → refusal.handshake_phase ≡ phase → RefusedBy phase (setup_of settings) settings.replies kind old new after
+told_refusal : {given : List Given} (settings : Settings) (kind : ErrorKind) (phase : HandshakePhase) (old new : State) (after : ℤ) (output left : List ℕ) (taken : ℕ) (refusal : EstablishError) (x : Rehearsal)
+    → refusal.cause.kind ≡ kind → refusal.handshake_phase ≡ phase → RefusedBy given phase (setup_of settings) settings.replies kind old new after
     → Replayed settings.replies output left old new → taken ≡ length settings.replies - length left → ReportsRefused output taken refusal x → Replays settings (Err refusal) old new x
 told_refusal settings kind phase old new after output left taken refusal x kind_is phase_is r p taken_is tells =
     let l = r.left_by in
@@ -155,9 +156,9 @@ told_refusal settings kind phase old new after output left taken refusal x kind_
       };
     }
 
-unmade : (settings : Settings) (old new : State) (after : ℤ) (first last : Ledgers) (refusal : EstablishError) (output left : List ℕ) (taken : ℕ) (x : Rehearsal)
-    → StoppedIn refusal.handshake_phase (setup_of settings) refusal.cause.kind (start_of (setup_of settings) old first) (checkpoint (point new after) last) → Replayed settings.replies output left old new → taken ≡ length settings.replies - length left → ReportsRefused output taken refusal x → Replays settings (Err refusal) old new x
-unmade settings old new after first last refusal output left taken x s p taken_is tells =
+unmade : (given : List Given) (settings : Settings) (old new : State) (after : ℤ) (first last : Ledgers) (refusal : EstablishError) (output left : List ℕ) (taken : ℕ) (x : Rehearsal)
+    → StoppedIn given refusal.handshake_phase (setup_of settings) refusal.cause.kind (start_of (setup_of settings) old first) (checkpoint (point new after) last) → Replayed settings.replies output left old new → taken ≡ length settings.replies - length left → ReportsRefused output taken refusal x → Replays settings (Err refusal) old new x
+unmade given settings old new after first last refusal output left taken x s p taken_is tells =
     elim (stopped_refusal refusal.handshake_phase (setup_of settings) refusal.cause.kind old new after first last settings.replies s p.given p.unfailed) [
       | inl memory ↦ absurd (subst IsReported memory tells.reported)
       | inr r ↦ told_refusal settings refusal.cause.kind refusal.handshake_phase old new after output left taken refusal x refl refl r p taken_is tells
@@ -166,9 +167,9 @@ unmade settings old new after first last refusal output left taken x s p taken_i
 -- ---- either
 
 -- however an establishment ended, what is told of it is the report
-pub rehearsed : {E : Type 0} (settings : Settings) (setup : Setup) (old new : State) (after : ℤ) (first last : Ledgers) (output left : List ℕ) (taken : ℕ) (ended : Result PooledConnection EstablishError) (r : Result Rehearsal E)
-    → setup ≡ setup_of settings → IfOk ended (Established setup (start_of setup old first) (checkpoint (point new after) last)) → IfErr ended (λ e. StoppedIn e.handshake_phase setup e.cause.kind (start_of setup old first) (checkpoint (point new after) last))
+pub rehearsed : (given : List Given) {E : Type 0} (settings : Settings) (setup : Setup) (old new : State) (after : ℤ) (first last : Ledgers) (output left : List ℕ) (taken : ℕ) (ended : Result PooledConnection EstablishError) (r : Result Rehearsal E)
+    → setup ≡ setup_of settings → IfOk ended (Established given setup (start_of setup old first) (checkpoint (point new after) last)) → IfErr ended (λ e. StoppedIn given e.handshake_phase setup e.cause.kind (start_of setup old first) (checkpoint (point new after) last))
     → Replayed settings.replies output left old new → taken ≡ length settings.replies - length left → IfOk r (ReportsOutcome output taken ended) → IfOk r (Replays settings ended old new)
-rehearsed settings setup old new after first last output left taken (Ok pooled) (Ok x) same m s p taken_is tells = made settings old new after first last pooled output left taken x (subst (λ a. Established a (start_of a old first) (checkpoint (point new after) last) pooled) same m) p taken_is tells
-rehearsed settings setup old new after first last output left taken (Err refusal) (Ok x) same m s p taken_is tells = unmade settings old new after first last refusal output left taken x (subst (λ a. StoppedIn refusal.handshake_phase a refusal.cause.kind (start_of a old first) (checkpoint (point new after) last)) same s) p taken_is tells
-rehearsed settings setup old new after first last output left taken ended (Err error) same m s p taken_is tells = tt
+rehearsed given settings setup old new after first last output left taken (Ok pooled) (Ok x) same m s p taken_is tells = made settings old new after first last pooled output left taken x (subst (λ a. Established given a (start_of a old first) (checkpoint (point new after) last) pooled) same m) p taken_is tells
+rehearsed given settings setup old new after first last output left taken (Err refusal) (Ok x) same m s p taken_is tells = unmade _ settings old new after first last refusal output left taken x (subst (λ a. StoppedIn given refusal.handshake_phase a refusal.cause.kind (start_of a old first) (checkpoint (point new after) last)) same s) p taken_is tells
+rehearsed given settings setup old new after first last output left taken ended (Err error) same m s p taken_is tells = tt

@@ -9,7 +9,8 @@ use Rattle.mongo_bson.specs.declared.fault.BsonFault.TheVariants.{TooLong}
 use Rattle.mongo_wire.specs.declared.message.Message.{Message}
 use Rattle.mongo_wire.specs.Message.{ReadRefused}
 use Rattle.mongo_wire.specs.Outside.{State}
-use Rattle.mongo_command.specs.Conversation.{Plan, StoppedKeeping, Reached}
+use Rattle.mongo_command.specs.Helper.{Given}
+use Rattle.mongo_command.specs.Conversation.{Plan, ReachedGiven, StoppedGiven}
 use Rattle.mongo_command.specs.Exchange.{ExchangeRefused, SendRefused, Unsent, Cut, point}
 use Rattle.mongo_scram.specs.Costs.{Ledgers, checkpoint}
 use Rattle.mongo_establish.specs.declared.establisher.EstablishError.{EstablishError}
@@ -61,10 +62,10 @@ exchange_refused kind maximum message old new before after kept (inr is) =
 
 -- ---- a plan
 
-reached : {A : Type 0} (plan : Plan A) (answer : A) (old new : State) (before after : ℤ) → Reached plan answer (point old before) (point new after) → TakesSome old.left new.left
+reached : {A : Type 0} {given : List Given} (plan : Plan A) (answer : A) (old new : State) (before after : ℤ) → ReachedGiven given plan answer (point old before) (point new after) → TakesSome old.left new.left
 reached plan answer old new before after is = (is.talked.heard, is.talked.consumed)
 
-stopped : {A : Type 0} {kept : Option ErrorKind} (plan : Plan A) (kind : ErrorKind) (old new : State) (before after : ℤ) → StoppedKeeping plan kind (point old before) (point new after) kept → TakesSome old.left new.left
+stopped : {A : Type 0} {given : List Given} {kept : Option ErrorKind} (plan : Plan A) (kind : ErrorKind) (old new : State) (before after : ℤ) → StoppedGiven given plan kind (point old before) (point new after) kept → TakesSome old.left new.left
 stopped plan kind old new before after is =
     more_taken old.left is.middle.state.left new.left (is.talked.heard, is.talked.consumed)
     (elim is.stop [
@@ -74,9 +75,9 @@ stopped plan kind old new before after is =
 
 -- ---- an establishment
 
-stopped_in : (phase : HandshakePhase) (setup : Setup) (kind : ErrorKind) (old new : State) (after : ℤ) (first last : Ledgers) → StoppedIn phase setup kind (start_of setup old first) (checkpoint (point new after) last) → TakesSome old.left new.left
-stopped_in (PreHello generation) setup kind old new after first last is = stopped _ kind old new _ after is.1.1
-stopped_in (PostHello generation) setup kind old new after first last is =
+stopped_in : (given : List Given) (phase : HandshakePhase) (setup : Setup) (kind : ErrorKind) (old new : State) (after : ℤ) (first last : Ledgers) → StoppedIn given phase setup kind (start_of setup old first) (checkpoint (point new after) last) → TakesSome old.left new.left
+stopped_in given (PreHello generation) setup kind old new after first last is = stopped _ kind old new _ after is.2.1
+stopped_in given (PostHello generation) setup kind old new after first last is =
     more_taken old.left is.middle.state.left new.left (reached _ is.greeting old is.middle.state _ is.middle.id is.hello)
     (elim is.stopped [
       | inl refused ↦ stopped _ kind is.middle.state new is.middle.id after refused.login.1
@@ -87,12 +88,12 @@ shorter : (bytes left : List ℕ) → TakesSome (Some bytes) (Some left) → len
 shorter bytes left is = let parts : length bytes ≡ length is.0 + length left = ap length is.1 ∙ length-append is.0 left in omega (arith, parts)
 
 -- what is left isn't longer than what was left before
-pub left_within : (setup : Setup) (old new : State) (after : ℤ) (first last : Ledgers) (bytes left : List ℕ) (ended : Result PooledConnection EstablishError) → IfOk ended (Established setup (start_of setup old first) (checkpoint (point new after) last))
-    → IfErr ended (λ e. StoppedIn e.handshake_phase setup e.cause.kind (start_of setup old first) (checkpoint (point new after) last)) → old.left ≡ Some bytes → new.left ≡ Some left → length left ≤ length bytes
-left_within setup old new after first last bytes left (Ok pooled) made refused was is =
+pub left_within : (given : List Given) (setup : Setup) (old new : State) (after : ℤ) (first last : Ledgers) (bytes left : List ℕ) (ended : Result PooledConnection EstablishError) → IfOk ended (Established given setup (start_of setup old first) (checkpoint (point new after) last))
+    → IfErr ended (λ e. StoppedIn given e.handshake_phase setup e.cause.kind (start_of setup old first) (checkpoint (point new after) last)) → old.left ≡ Some bytes → new.left ≡ Some left → length left ≤ length bytes
+left_within given setup old new after first last bytes left (Ok pooled) made refused was is =
     let replies = made.scripted.taken bytes was in
     shorter bytes left (replies.taken, replies.joined ∙ ap (λ rest. replies.taken ++ rest) (same_some replies.rest left (sym replies.left_is ∙ is))) where
       same_some : (a b : List ℕ) → Some a ≡ Some b → a ≡ b
       same_some a b e = cc
-left_within setup old new after first last bytes left (Err e) made refused was is =
-    shorter bytes left (subst (λ left. TakesSome (Some bytes) left) is (subst (λ o. TakesSome o new.left) was (stopped_in e.handshake_phase setup e.cause.kind old new after first last refused)))
+left_within given setup old new after first last bytes left (Err e) made refused was is =
+    shorter bytes left (subst (λ left. TakesSome (Some bytes) left) is (subst (λ o. TakesSome o new.left) was (stopped_in given e.handshake_phase setup e.cause.kind old new after first last refused)))

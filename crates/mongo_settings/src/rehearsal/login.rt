@@ -1,5 +1,5 @@
 //! A login that is ready, and the establishment of its connection.
-ghost use Rattle.std.specs.Prelude.{◌≡◌, ◌≤◌, IfOk, IfErr};
+ghost use Rattle.std.specs.Prelude.{◌≡◌, ◌≤◌, [], IfOk, IfErr};
 ghost use Rattle.mongo_wire.specs.declared.error.ErrorKind.TheVariants.{OutOfMemory};
 ghost use Rattle.mongo_scram.specs.Costs.{ledgers};
 ghost use Rattle.mongo_establish.specs.Ending.{EndsEstablishment};
@@ -84,7 +84,7 @@ pub fn connect<L: Link, G: Ledger>(
 ) -> Result<PooledConnection, EstablishError>
     requires spoken { SpeaksFor login.credential }
     // All that `establish_connection` promises, of what the login asks for.
-    ensures ended { EndsEstablishment (setup_by login)
+    ensures ended { EndsEstablishment [] (setup_by login)
         (start_of (setup_by login) (L.state link.old) (ledgers steps.old state.old.salted)) (checkpoint_with (L.state link.new) state.new steps.new) result }
     ensures steps { steps.old ≤ steps.new }
 {

@@ -4,7 +4,7 @@ use Rattle.mongo_connect.proofs.Recalled.{told_over, untold_over}
 use Rattle.mongo_connect.proofs.connecting.report_over.Goals as goal
 
 pub report_outcome-requires : goal.report_outcome-requires
-report_outcome-requires g c = record { described = described _ _ _ _ _ _ c.connect-ended.result c.connect-ended.ensures.ended.established }
+report_outcome-requires g c = record { described = described _ _ _ _ _ _ _ c.connect-ended.result c.connect-ended.ensures.ended.established }
 
 pub returns-clause-told : goal.returns-clause-told
 returns-clause-told g c =

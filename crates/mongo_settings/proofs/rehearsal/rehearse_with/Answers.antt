@@ -10,13 +10,13 @@ overflow_sub-taken g c =
     let replies = bytes_left c.new-link.result in
     let rest = bytes_left c.connect-ended.new.link in
     let how = c.connect-ended.ensures.ended in
-    let within : length rest ≤ length replies = left_within _ _ _ _ _ _ replies rest c.connect-ended.result how.established how.refused refl refl in
+    let within : length rest ≤ length replies = left_within _ _ _ _ _ _ _ replies rest c.connect-ended.result how.established how.refused refl refl in
     let before : length c.left-total.result.now ≡ length replies = ap length c.left-total.ensures in
     let after : length c.left.result.now ≡ length rest = ap length c.left.ensures in
     omega (arith, within, before, after)
 
 pub report_outcome-requires : goal.report_outcome-requires
-report_outcome-requires g c = record { described = described _ _ _ _ _ _ c.connect-ended.result c.connect-ended.ensures.ended.established }
+report_outcome-requires g c = record { described = described _ _ _ _ _ _ _ c.connect-ended.result c.connect-ended.ensures.ended.established }
 
 pub returns-clause-cost : goal.returns-clause-cost
 returns-clause-cost g c =
@@ -40,4 +40,4 @@ returns-clause-cost g c =
     let count : taken ≡ length settings.replies - length (bytes_left link) = ap (λ l. length l - length c.left.result.now) (c.left-total.ensures ∙ given)
     ∙ ap (λ l. length settings.replies - length l) c.left.ensures in
     cost settings _ _ _ _ _ written (bytes_left link) taken ended c.report_outcome.result ready.login.setup how.led replayed c.report_outcome.ensures.told
-    (rehearsed settings _ _ _ _ _ _ written (bytes_left link) taken ended c.report_outcome.result ready.login.setup how.established how.refused replayed count c.report_outcome.ensures.told)
+    (rehearsed _ settings _ _ _ _ _ _ written (bytes_left link) taken ended c.report_outcome.result ready.login.setup how.established how.refused replayed count c.report_outcome.ensures.told)

@@ -12,11 +12,11 @@ returns-in_err-reply-clause-refused g c =
 
 pub returns-in_err-reply-clause-complete : goal.returns-in_err-reply-clause-complete
 returns-in_err-reply-clause-complete g c =
-    establishment_only_memory c.from_residual.result (λ e. e.kind) _ _ _ _ (unmonitored_whole c.args.address c.args.id (options_of_establisher c.args.self.now) c.args.ids.now c.new-connection.result c.new-connection.ensures.address c.from_residual.result _ _ _ (returns-in_err-reply-clause-refused g c))
+    establishment_only_memory _ c.from_residual.result (λ e. e.kind) _ _ _ _ (unmonitored_whole c.args.address c.args.id (options_of_establisher c.args.self.now) c.args.ids.now c.new-connection.result c.new-connection.ensures.address c.from_residual.result _ _ _ (returns-in_err-reply-clause-refused g c))
 
 pub returns-in_err-reply-clause-exact : goal.returns-in_err-reply-clause-exact
 returns-in_err-reply-clause-exact g c =
-    only_refused c.from_residual.result (λ e. e.kind) _ _ _ _ _ (one_establishment _)
+    only_refused _ c.from_residual.result (λ e. e.kind) _ _ _ _ _ (one_establishment _)
     (unmonitored_whole c.args.address c.args.id (options_of_establisher c.args.self.now) c.args.ids.now c.new-connection.result c.new-connection.ensures.address c.from_residual.result _ _ _ (returns-in_err-reply-clause-refused g c))
 
 pub returns-clause-monitored : goal.returns-clause-monitored

@@ -25,7 +25,7 @@ returns-in_err-log_in-clause-refused g c =
     login_stopped c.args.connection.now (options_in c.args.self.now) (option_copied c.args.credential) c.args.inputs.now.nonces c.args.state.now.ids
     c.in_ok-first.ensures.made c.in_ok-first.first c.in_ok-first.ensures.first _ _ _ c.in_ok-reply.reply c.say_hello.new.connection c.in_ok-reply.ensures.greeted
     c.answered_round-round.result c.answered_round-round.ensures.there c.answered_round-round.ensures.scram
-    _ c.log_in.new.connection _ _ _ _ c.log_in.ensures.connection (refusal_handed_on _ c.log_in.result c.in_err-log_in.field-0.0 _ c.from_residual-in_err-log_in.ensures.1 c.in_err-log_in.was c.log_in.ensures.refused)
+    _ _ c.log_in.new.connection _ _ _ _ c.log_in.ensures.connection (refusal_handed_on _ c.log_in.result c.in_err-log_in.field-0.0 _ c.from_residual-in_err-log_in.ensures.1 c.in_err-log_in.was c.log_in.ensures.refused)
 
 pub returns-in_err-log_in-clause-entries : goal.returns-in_err-log_in-clause-entries
 returns-in_err-log_in-clause-entries g c = on_refused c.from_residual-in_err-log_in.result _ c.in_err-log_in.ensures.entries
@@ -41,24 +41,24 @@ returns-clause-shook g c =
 
 pub returns-in_err-first-clause-complete : goal.returns-in_err-first-clause-complete
 returns-in_err-first-clause-complete g c =
-    establishment_only_memory c.from_residual.result (λ e. e.kind) _ _ _ _ (handshake_stopped c.from_residual.result _ _ _ _ (shaking_stopped c.from_residual.result _ _ _ _ _ _ _ _ (returns-in_err-first-clause-refused g c)))
+    establishment_only_memory _ c.from_residual.result (λ e. e.kind) _ _ _ _ (handshake_stopped _ c.from_residual.result _ _ _ _ (shaking_stopped _ c.from_residual.result _ _ _ _ _ _ _ _ (returns-in_err-first-clause-refused g c)))
 
 pub returns-in_err-first-clause-exact : goal.returns-in_err-first-clause-exact
 returns-in_err-first-clause-exact g c =
-    only_refused c.from_residual.result (λ e. e.kind) _ _ _ _ _ (one_handshake _) (shaking_stopped c.from_residual.result _ _ _ _ _ _ _ _ (returns-in_err-first-clause-refused g c))
+    only_refused _ c.from_residual.result (λ e. e.kind) _ _ _ _ _ (one_handshake _) (shaking_stopped _ c.from_residual.result _ _ _ _ _ _ _ _ (returns-in_err-first-clause-refused g c))
 
 pub returns-in_err-reply-clause-complete : goal.returns-in_err-reply-clause-complete
 returns-in_err-reply-clause-complete g c =
-    establishment_only_memory c.from_residual-in_err-reply.result (λ e. e.kind) _ _ _ _ (handshake_stopped c.from_residual-in_err-reply.result _ _ _ _ (shaking_stopped c.from_residual-in_err-reply.result _ _ _ _ _ _ _ _ (returns-in_err-reply-clause-refused g c)))
+    establishment_only_memory _ c.from_residual-in_err-reply.result (λ e. e.kind) _ _ _ _ (handshake_stopped _ c.from_residual-in_err-reply.result _ _ _ _ (shaking_stopped _ c.from_residual-in_err-reply.result _ _ _ _ _ _ _ _ (returns-in_err-reply-clause-refused g c)))
 
 pub returns-in_err-reply-clause-exact : goal.returns-in_err-reply-clause-exact
 returns-in_err-reply-clause-exact g c =
-    only_refused c.from_residual-in_err-reply.result (λ e. e.kind) _ _ _ _ _ (one_handshake _) (shaking_stopped c.from_residual-in_err-reply.result _ _ _ _ _ _ _ _ (returns-in_err-reply-clause-refused g c))
+    only_refused _ c.from_residual-in_err-reply.result (λ e. e.kind) _ _ _ _ _ (one_handshake _) (shaking_stopped _ c.from_residual-in_err-reply.result _ _ _ _ _ _ _ _ (returns-in_err-reply-clause-refused g c))
 
 pub returns-in_err-log_in-clause-complete : goal.returns-in_err-log_in-clause-complete
 returns-in_err-log_in-clause-complete g c =
-    establishment_only_memory c.from_residual-in_err-log_in.result (λ e. e.kind) _ _ _ _ (handshake_stopped c.from_residual-in_err-log_in.result _ _ _ _ (shaking_stopped c.from_residual-in_err-log_in.result _ _ _ _ _ _ _ _ (returns-in_err-log_in-clause-refused g c)))
+    establishment_only_memory _ c.from_residual-in_err-log_in.result (λ e. e.kind) _ _ _ _ (handshake_stopped _ c.from_residual-in_err-log_in.result _ _ _ _ (shaking_stopped _ c.from_residual-in_err-log_in.result _ _ _ _ _ _ _ _ (returns-in_err-log_in-clause-refused g c)))
 
 pub returns-in_err-log_in-clause-exact : goal.returns-in_err-log_in-clause-exact
 returns-in_err-log_in-clause-exact g c =
-    only_refused c.from_residual-in_err-log_in.result (λ e. e.kind) _ _ _ _ _ (one_handshake _) (shaking_stopped c.from_residual-in_err-log_in.result _ _ _ _ _ _ _ _ (returns-in_err-log_in-clause-refused g c))
+    only_refused _ c.from_residual-in_err-log_in.result (λ e. e.kind) _ _ _ _ _ (one_handshake _) (shaking_stopped _ c.from_residual-in_err-log_in.result _ _ _ _ _ _ _ _ (returns-in_err-log_in-clause-refused g c))

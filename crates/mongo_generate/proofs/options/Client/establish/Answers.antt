@@ -13,7 +13,7 @@ establish_connection-ended-requires g c = record { spoken = speaks c.args.login.
 pub returns-in_err-is_accepted-clause-steps : goal.returns-in_err-is_accepted-clause-steps
 returns-in_err-is_accepted-clause-steps g c =
     let made = c.establish_connection-ended in
-    some_rise _ _ (costs_some made.result _ _ _ _ _ _ made.ensures.ended.established made.ensures.ended.refused)
+    some_rise _ _ (costs_some _ made.result _ _ _ _ _ _ made.ensures.ended.established made.ensures.ended.refused)
 
 pub returns-then-not-branch-clause-written : goal.returns-then-not-branch-clause-written
 returns-then-not-branch-clause-written g c = λ x logs heard.
@@ -34,7 +34,7 @@ returns-then-not-branch-clause-takes g c = λ x logs heard.
 pub returns-then-not-branch-clause-steps : goal.returns-then-not-branch-clause-steps
 returns-then-not-branch-clause-steps g c =
     let made = c.establish_connection-ended in
-    some_rise _ _ (costs_some made.result _ _ _ _ _ _ made.ensures.ended.established made.ensures.ended.refused)
+    some_rise _ _ (costs_some _ made.result _ _ _ _ _ _ made.ensures.ended.established made.ensures.ended.refused)
 
 pub returns-clause-written : goal.returns-clause-written
 returns-clause-written g c = λ x logs heard.
@@ -42,14 +42,14 @@ returns-clause-written g c = λ x logs heard.
     let link = c.new-link in
     let told = ap Some (ap (λ n. drop n link.result.input.items) link.ensures.at ∙ link.ensures.input) in
     accepted_writes c.in_ok-pending.pending (options_of_establisher c.args.self.now.establisher) c.new-state.result x c.args.login.now c.args.replies logs heard c.in_ok-pending.ensures.generation c.args.self.now.options c.new-state.ensures
-    made.result _ _ _ _ _ c.into_written.result (subst (IsAcceptedAs made.result) c.if-not-branch.false c.in_ok-is_accepted.ensures) made.ensures.ended.established told (ap Some link.ensures.output) (ap Some (sym c.into_written.ensures))
+    _ made.result _ _ _ _ _ c.into_written.result (subst (IsAcceptedAs made.result) c.if-not-branch.false c.in_ok-is_accepted.ensures) made.ensures.ended.established told (ap Some link.ensures.output) (ap Some (sym c.into_written.ensures))
 
 pub returns-clause-carried : goal.returns-clause-carried
 returns-clause-carried g c =
     let made = c.establish_connection-ended in
     let link = c.new-link in
     let told = ap Some (ap (λ n. drop n link.result.input.items) link.ensures.at ∙ link.ensures.input) in
-    accepted_carries c.in_ok-pending.pending (options_of_establisher c.args.self.now.establisher) c.new-state.result c.args.login.now c.args.replies c.requires.replies c.args.self.now.options c.args.login.now.scram c.args.login.now.admin
+    accepted_carries _ c.in_ok-pending.pending (options_of_establisher c.args.self.now.establisher) c.new-state.result c.args.login.now c.args.replies c.requires.replies c.args.self.now.options c.args.login.now.scram c.args.login.now.admin
     made.result _ _ _ _ _ c.into_written.result (subst (IsAcceptedAs made.result) c.if-not-branch.false c.in_ok-is_accepted.ensures) made.ensures.ended.established told (ap Some link.ensures.output) (ap Some (sym c.into_written.ensures))
 
 pub returns-clause-takes : goal.returns-clause-takes
@@ -63,28 +63,28 @@ returns-clause-takes g c = λ x logs heard.
 pub returns-clause-steps : goal.returns-clause-steps
 returns-clause-steps g c =
     let made = c.establish_connection-ended in
-    some_rise _ _ (costs_some made.result _ _ _ _ _ _ made.ensures.ended.established made.ensures.ended.refused)
+    some_rise _ _ (costs_some _ made.result _ _ _ _ _ _ made.ensures.ended.established made.ensures.ended.refused)
 
 pub returns-in_err-is_accepted-clause-keeps : goal.returns-in_err-is_accepted-clause-keeps
 returns-in_err-is_accepted-clause-keeps g c =
     let made = c.establish_connection-ended in
     let link = c.new-link in
     let told = ap Some (ap (λ n. drop n link.result.input.items) link.ensures.at ∙ link.ensures.input) in
-    keeps_entries made.result _ c.args.replies _ _ (costs_some made.result _ _ _ _ _ _ made.ensures.ended.established made.ensures.ended.refused) (made.ensures.ended.led.over c.args.replies told (record { reads = no_fault; writes = no_fault })) made.ensures.ended.entries
+    keeps_entries made.result _ c.args.replies _ _ (costs_some _ made.result _ _ _ _ _ _ made.ensures.ended.established made.ensures.ended.refused) (made.ensures.ended.led.over c.args.replies told (record { reads = no_fault; writes = no_fault })) made.ensures.ended.entries
 
 pub returns-then-not-branch-clause-keeps : goal.returns-then-not-branch-clause-keeps
 returns-then-not-branch-clause-keeps g c =
     let made = c.establish_connection-ended in
     let link = c.new-link in
     let told = ap Some (ap (λ n. drop n link.result.input.items) link.ensures.at ∙ link.ensures.input) in
-    keeps_entries made.result _ c.args.replies _ _ (costs_some made.result _ _ _ _ _ _ made.ensures.ended.established made.ensures.ended.refused) (made.ensures.ended.led.over c.args.replies told (record { reads = no_fault; writes = no_fault })) made.ensures.ended.entries
+    keeps_entries made.result _ c.args.replies _ _ (costs_some _ made.result _ _ _ _ _ _ made.ensures.ended.established made.ensures.ended.refused) (made.ensures.ended.led.over c.args.replies told (record { reads = no_fault; writes = no_fault })) made.ensures.ended.entries
 
 pub returns-clause-keeps : goal.returns-clause-keeps
 returns-clause-keeps g c =
     let made = c.establish_connection-ended in
     let link = c.new-link in
     let told = ap Some (ap (λ n. drop n link.result.input.items) link.ensures.at ∙ link.ensures.input) in
-    keeps_entries made.result _ c.args.replies _ _ (costs_some made.result _ _ _ _ _ _ made.ensures.ended.established made.ensures.ended.refused) (made.ensures.ended.led.over c.args.replies told (record { reads = no_fault; writes = no_fault })) made.ensures.ended.entries
+    keeps_entries made.result _ c.args.replies _ _ (costs_some _ made.result _ _ _ _ _ _ made.ensures.ended.established made.ensures.ended.refused) (made.ensures.ended.led.over c.args.replies told (record { reads = no_fault; writes = no_fault })) made.ensures.ended.entries
 
 pub returns-in_err-pending-clause-keeps : goal.returns-in_err-pending-clause-keeps
 returns-in_err-pending-clause-keeps g c = keeps_still c.args.steps.now c.args.state.now.salted

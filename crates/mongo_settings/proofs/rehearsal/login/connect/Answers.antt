@@ -9,4 +9,4 @@ returns-clause-ended g c =
     c.establish_connection.ensures.ended
 
 pub returns-clause-steps : goal.returns-clause-steps
-returns-clause-steps g c = some_rise _ _ (costs_some c.establish_connection.result _ _ _ _ _ _ c.establish_connection.ensures.ended.established c.establish_connection.ensures.ended.refused)
+returns-clause-steps g c = some_rise _ _ (costs_some _ c.establish_connection.result _ _ _ _ _ _ c.establish_connection.ensures.ended.established c.establish_connection.ensures.ended.refused)
