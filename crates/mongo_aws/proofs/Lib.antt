@@ -1,0 +1,2 @@
+pub mod Foreign
+pub mod HeaderTexts
