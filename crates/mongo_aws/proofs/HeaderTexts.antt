@@ -1,6 +1,11 @@
 -- The texts of a request's headers.
-use Rattle.std.proofs.Common.{◌≡◌, ℕ, Option, None, Some, List, [], ◌∷◌, ◌++◌, append-nil, append_assoc, refl, sym, ap, ◌∙◌}
+use Rattle.std.proofs.Common.{◌≡◌, ℕ, Option, None, Some, List, [], ◌∷◌, ◌++◌, append-nil, refl, sym, ap, ◌∙◌, arith, rules}
 use Rattle.std.specs.Prelude.{codes}
+use Rattle.std.specs.Str.{IsAscii}
+use Rattle.std.proofs.lemmas.Grind.{common_steps}
+use Rattle.std.proofs.lemmas.List.Concat.{flat_map-append}
+use Rattle.hex.specs.Hex.{encode_lower, lower_digits}
+use Rattle.hex.proofs.HexLemmas.{IsAscii-encode_with}
 use Rattle.mongo_aws.specs.CanonicalRequest.{header, header_line, token_headers, canonical_headers, request_headers, signed_headers}
 
 pub names_with : (token : Option (List ℕ)) (value date host nonce : List ℕ) → token ≡ Some value → codes "content-length;content-type;host;x-amz-date;x-amz-security-token;x-mongodb-gs2-cb-flag;x-mongodb-server-nonce" ≡ signed_headers (request_headers token date host nonce)
@@ -15,3 +20,30 @@ names_without token date host nonce is = ap (λ (t : Option (List ℕ)). signed_
 pub token_line : (token : Option (List ℕ)) (value : List ℕ) → token ≡ Some value → header_line (header (codes "x-amz-security-token") value) ≡ canonical_headers (token_headers token)
 unfolding canonical_headers
 token_line token value is = sym (append-nil (header_line (header (codes "x-amz-security-token") value))) ∙ ap (λ (t : Option (List ℕ)). canonical_headers (token_headers t)) (sym is)
+
+-- without a token there is none
+pub no_token : (token : Option (List ℕ)) → token ≡ None → (added : List ℕ) → added ≡ added ++ canonical_headers (token_headers token)
+unfolding canonical_headers
+no_token token is added = sym (append-nil added) ∙ ap (λ (t : Option (List ℕ)). added ++ canonical_headers (token_headers t)) (sym is)
+
+-- ---- the lines of all headers, added one after another
+
+joined : (added a b c d t e f : List ℕ) → added ++ a ++ b ++ c ++ d ++ t ++ e ++ f ≡ added ++ (a ++ (b ++ (c ++ (d ++ (t ++ (e ++ (f ++ [])))))))
+joined added a b c d t e f = grind (arith, common_steps)
+
+all_lines : (token : Option (List ℕ)) (date host nonce : List ℕ) → canonical_headers (request_headers token date host nonce) ≡ header_line (header (codes "content-length") (codes "43")) ++ (header_line (header (codes "content-type") (codes "application/x-www-form-urlencoded")) ++ (header_line (header (codes "host") host) ++ (header_line (header (codes "x-amz-date") date) ++ (canonical_headers (token_headers token) ++ (header_line (header (codes "x-mongodb-gs2-cb-flag") (codes "n")) ++ (header_line (header (codes "x-mongodb-server-nonce") nonce) ++ []))))))
+unfolding canonical_headers request_headers
+all_lines token date host nonce =
+    ap (λ lines. header_line (header (codes "content-length") (codes "43")) ++ (header_line (header (codes "content-type") (codes "application/x-www-form-urlencoded")) ++ (header_line (header (codes "host") host) ++ (header_line (header (codes "x-amz-date") date) ++ lines))))
+    (flat_map-append header_line (token_headers token) (header (codes "x-mongodb-gs2-cb-flag") (codes "n") ∷ header (codes "x-mongodb-server-nonce") nonce ∷ []))
+
+pub lines_added : (added : List ℕ) (token : Option (List ℕ)) (date host nonce : List ℕ) → added ++ header_line (header (codes "content-length") (codes "43")) ++ header_line (header (codes "content-type") (codes "application/x-www-form-urlencoded")) ++ header_line (header (codes "host") host) ++ header_line (header (codes "x-amz-date") date) ++ canonical_headers (token_headers token) ++ header_line (header (codes "x-mongodb-gs2-cb-flag") (codes "n")) ++ header_line (header (codes "x-mongodb-server-nonce") nonce) ≡ added ++ canonical_headers (request_headers token date host nonce)
+lines_added added token date host nonce = joined added _ _ _ _ _ _ _ ∙ ap (λ lines. added ++ lines) (sym (all_lines token date host nonce))
+
+-- ---- hex
+
+ascii_digits : IsAscii lower_digits
+ascii_digits = search rules
+
+pub ascii_hex : (bytes : List ℕ) → IsAscii (encode_lower bytes)
+ascii_hex bytes = IsAscii-encode_with lower_digits bytes ascii_digits

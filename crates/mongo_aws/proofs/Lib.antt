@@ -1,2 +1,5 @@
+pub mod Dates
 pub mod Foreign
 pub mod HeaderTexts
+pub mod KeyChain
+pub mod Labels
