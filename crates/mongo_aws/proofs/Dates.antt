@@ -1,8 +1,8 @@
 -- The date of a moment, from a clock that shows the moment.
-use Rattle.std.proofs.Common.{◌≡◌, ℕ, ◌+◌, ◌*◌, ◌%◌, ◌<◌, ◌≤◌, List, refl, sym, ap, subst, ◌∙◌, arith, ℤ, pos, negsuc, ◌+ℤ◌, ◌*ℤ◌, ◌<ℤ◌, ◌≤ℤ◌, unsigned_abs}
+use Rattle.std.proofs.Common.{lit<, ◌≡◌, ℕ, ◌+◌, ◌*◌, ◌%◌, ◌<◌, ◌≤◌, List, refl, sym, ap, subst, ◌∙◌, arith, ℤ, pos, negsuc, ◌+ℤ◌, ◌*ℤ◌, ◌<ℤ◌, ◌≤ℤ◌, unsigned_abs}
 use Rattle.std.specs.Str.{IsAscii}
 use Rattle.std.proofs.lemmas.Int.{by_lt_z}
-use Rattle.std.proofs.lemmas.Str.Ascii.{IsAscii-nil, IsAscii-cons}
+use Rattle.std.proofs.ByRecursion.{IsAscii-from_all}
 use Rattle.jiff_core.specs.declared.civil.datetime.DateTime.{DateTime}
 use Rattle.jiff_core.specs.Calendar.{days_from_civil, day_count, IsCivilDate}
 use Rattle.jiff_core.specs.DateTime.{civil_nanos, civil_seconds}
@@ -63,9 +63,4 @@ low_digit : (n : ℕ) → digit n < 128
 low_digit n = grind arith
 
 pub ascii_date : (c : CivilSecond) → IsAscii (date_text c)
-ascii_date c =
-    IsAscii-cons _ _ (low_digit _) (IsAscii-cons _ _ (low_digit _) (IsAscii-cons _ _ (low_digit _) (IsAscii-cons _ _ (low_digit _)
-    (IsAscii-cons _ _ (low_digit _) (IsAscii-cons _ _ (low_digit _) (IsAscii-cons _ _ (low_digit _) (IsAscii-cons _ _ (low_digit _)
-    (IsAscii-cons _ _ (lit< tt)
-    (IsAscii-cons _ _ (low_digit _) (IsAscii-cons _ _ (low_digit _) (IsAscii-cons _ _ (low_digit _) (IsAscii-cons _ _ (low_digit _) (IsAscii-cons _ _ (low_digit _) (IsAscii-cons _ _ (low_digit _)
-    (IsAscii-cons _ _ (lit< tt) IsAscii-nil)))))))))))))))
+ascii_date c = IsAscii-from_all (date_text c) (low_digit _ , (low_digit _ , (low_digit _ , (low_digit _ , (low_digit _ , (low_digit _ , (low_digit _ , (low_digit _ , (lit< tt , (low_digit _ , (low_digit _ , (low_digit _ , (low_digit _ , (low_digit _ , (low_digit _ , (lit< tt , tt))))))))))))))))

@@ -1,12 +1,14 @@
 -- The texts of a request's headers.
-use Rattle.std.proofs.Common.{◌≡◌, ℕ, Option, None, Some, List, [], ◌∷◌, ◌++◌, append-nil, refl, sym, ap, ◌∙◌, arith, rules}
+use Rattle.std.proofs.Common.{lit<, ◌≡◌, ℕ, Option, None, Some, List, [], ◌∷◌, ◌++◌, append-nil, refl, sym, ap, ◌∙◌, arith, subst}
 use Rattle.std.specs.Prelude.{codes}
+use Rattle.std.specs.Fmt.{digits}
 use Rattle.std.specs.Str.{IsAscii}
+use Rattle.std.proofs.ByRecursion.{IsAscii-from_all}
 use Rattle.std.proofs.lemmas.Grind.{common_steps}
 use Rattle.std.proofs.lemmas.List.Concat.{flat_map-append}
 use Rattle.hex.specs.Hex.{encode_lower, lower_digits}
 use Rattle.hex.proofs.HexLemmas.{IsAscii-encode_with}
-use Rattle.mongo_aws.specs.CanonicalRequest.{header, header_line, token_headers, canonical_headers, request_headers, signed_headers}
+use Rattle.mongo_aws.specs.CanonicalRequest.{header, header_line, token_headers, canonical_headers, request_headers, signed_headers, canonical_request, request_body, hash}
 
 pub names_with : (token : Option (List ℕ)) (value date host nonce : List ℕ) → token ≡ Some value → codes "content-length;content-type;host;x-amz-date;x-amz-security-token;x-mongodb-gs2-cb-flag;x-mongodb-server-nonce" ≡ signed_headers (request_headers token date host nonce)
 unfolding signed_headers request_headers
@@ -32,7 +34,7 @@ joined : (added a b c d t e f : List ℕ) → added ++ a ++ b ++ c ++ d ++ t ++ 
 joined added a b c d t e f = grind (arith, common_steps)
 
 all_lines : (token : Option (List ℕ)) (date host nonce : List ℕ) → canonical_headers (request_headers token date host nonce) ≡ header_line (header (codes "content-length") (codes "43")) ++ (header_line (header (codes "content-type") (codes "application/x-www-form-urlencoded")) ++ (header_line (header (codes "host") host) ++ (header_line (header (codes "x-amz-date") date) ++ (canonical_headers (token_headers token) ++ (header_line (header (codes "x-mongodb-gs2-cb-flag") (codes "n")) ++ (header_line (header (codes "x-mongodb-server-nonce") nonce) ++ []))))))
-unfolding canonical_headers request_headers
+unfolding canonical_headers request_headers digits
 all_lines token date host nonce =
     ap (λ lines. header_line (header (codes "content-length") (codes "43")) ++ (header_line (header (codes "content-type") (codes "application/x-www-form-urlencoded")) ++ (header_line (header (codes "host") host) ++ (header_line (header (codes "x-amz-date") date) ++ lines))))
     (flat_map-append header_line (token_headers token) (header (codes "x-mongodb-gs2-cb-flag") (codes "n") ∷ header (codes "x-mongodb-server-nonce") nonce ∷ []))
@@ -40,10 +42,17 @@ all_lines token date host nonce =
 pub lines_added : (added : List ℕ) (token : Option (List ℕ)) (date host nonce : List ℕ) → added ++ header_line (header (codes "content-length") (codes "43")) ++ header_line (header (codes "content-type") (codes "application/x-www-form-urlencoded")) ++ header_line (header (codes "host") host) ++ header_line (header (codes "x-amz-date") date) ++ canonical_headers (token_headers token) ++ header_line (header (codes "x-mongodb-gs2-cb-flag") (codes "n")) ++ header_line (header (codes "x-mongodb-server-nonce") nonce) ≡ added ++ canonical_headers (request_headers token date host nonce)
 lines_added added token date host nonce = joined added _ _ _ _ _ _ _ ∙ ap (λ lines. added ++ lines) (sym (all_lines token date host nonce))
 
+-- ---- the whole request, from its pieces
+
+pub whole_request : (token : Option (List ℕ)) (date host nonce first line_end names names_end hashed : List ℕ) → first ≡ codes "POST\n/\n\n" → line_end ≡ codes "\n" → names ≡ signed_headers (request_headers token date host nonce) → names_end ≡ codes "\n" → hashed ≡ hash request_body → first ++ canonical_headers (request_headers token date host nonce) ++ line_end ++ names ++ names_end ++ hashed ≡ canonical_request (request_headers token date host nonce)
+unfolding canonical_request
+whole_request token date host nonce first line_end names names_end hashed begins ends is names_ends hashed_is =
+    λ i. begins i ++ canonical_headers (request_headers token date host nonce) ++ ends i ++ is i ++ names_ends i ++ hashed_is i
+
 -- ---- hex
 
 ascii_digits : IsAscii lower_digits
-ascii_digits = search rules
+ascii_digits = IsAscii-from_all lower_digits (lit< tt , (lit< tt , (lit< tt , (lit< tt , (lit< tt , (lit< tt , (lit< tt , (lit< tt , (lit< tt , (lit< tt , (lit< tt , (lit< tt , (lit< tt , (lit< tt , (lit< tt , (lit< tt , (tt)))))))))))))))))
 
 pub ascii_hex : (bytes : List ℕ) → IsAscii (encode_lower bytes)
 ascii_hex bytes = IsAscii-encode_with lower_digits bytes ascii_digits

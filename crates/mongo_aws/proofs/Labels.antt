@@ -1,10 +1,12 @@
 -- The labels of a host, from where it is cut at its first full stop, and its region.
-use Rattle.std.proofs.Common.{◌≡◌, ◌≢◌, ◌↔◌, IsTrue, ℕ, Bool, true, false, not, ◌==◌, if◌then◌else◌, List, [], ◌∷◌, length, Option, Some, None, Bor, refl, sym, ap, ◌∙◌, arith}
+use Rattle.std.proofs.Common.{lit<, ◌≡◌, ◌≢◌, ◌↔◌, IsTrue, ℕ, Bool, true, false, not, ◌==◌, if◌then◌else◌, List, [], ◌∷◌, length, Option, Some, None, Bor, refl, sym, ap, ◌∙◌, arith}
 use Rattle.std.specs.Prelude.{slice_get, unwrap_or, bytes_eq}
 use Rattle.std.specs.List.{All, list_all, position_or_len}
 use Rattle.std.proofs.lemmas.List.Sums.{fails_before_first, AllPass-from_list_all, list_all-from_AllPass}
 use Rattle.std.proofs.lemmas.List.Splits.{slice_split_none, slice_split_first}
 use Rattle.std.proofs.lemmas.Str.Pattern.{IsSplitOnceResult, split_once_first}
+use Rattle.std.proofs.lemmas.Bool.{false≢true}
+use Rattle.std.proofs.lemmas.Bool.Decides.{nat_tests}
 use Rattle.mongo_aws.specs.Host.{is_full_stop, labels, global_host, default_region, region_of, HasNoEmptyLabel}
 
 module _ (host : List ℕ) (r : Option (Bor (List ℕ) × Bor (List ℕ))) (split : IsSplitOnceResult 46 host r) where
@@ -37,6 +39,19 @@ region_alone host other whole = region_else host other ∙ ap (λ ls. unwrap_or 
 
 -- ---- whether a label is empty
 
-is_some_label : List ℕ → Bool
-is_some_label [] = false
-is_some_label (b ∷ bs) = true
+abbrev pub is_some_label : List ℕ → Bool
+is_some_label label = not (length label == 0)
+
+some_label : (label : List ℕ) → is_some_label label ≡ true → label ≢ []
+some_label [] is = absurd (false≢true is)
+some_label (b ∷ bs) is = λ none. cc
+
+not_empty : (label : List ℕ) → label ≢ [] → is_some_label label ≡ true
+not_empty [] some = absurd (some refl)
+not_empty (b ∷ bs) some = grind (arith, nat_tests)
+
+pub no_empty_label : (host : List ℕ) (r : Bool) → r ≡ list_all is_some_label (labels host) → IsTrue r ↔ HasNoEmptyLabel host
+no_empty_label host r is = (
+  λ yes k d less. some_label _ (AllPass-from_list_all is_some_label (labels host) (sym is ∙ yes) k d less),
+  λ all. is ∙ list_all-from_AllPass is_some_label (labels host) (λ k d less. not_empty _ (all k d less)),
+)

@@ -1,7 +1,7 @@
 -- The server's first message: a well-formed document of its nonce and the host of STS, and of nothing else.
 use Rattle.std.specs.Prelude.{◌≡◌, ℕ, ◌||◌, Bool, false, not, List, [], ◌∷◌, drop, bytes_eq}
-use Rattle.mongo_bson.specs.Document.{Element, IsWellFormed}
-use Rattle.mongo_command.specs.Field.{field_of, Required, ReadsText}
+use Rattle.mongo_bson.specs.Document.{Element}
+use Rattle.mongo_command.specs.Field.{field_of, Required, ReadsText, HoldsTable}
 use Rattle.mongo_aws.specs.declared.server_message.ServerMessage.{ServerMessage}
 use Rattle.mongo_aws.specs.Keys.{server_nonce_key, sts_host_key}
 
@@ -27,10 +27,8 @@ pub record IsMessageTable (elements : List Element) (said : Said) : Type 0 where
   pub server_nonce : Required ReadsBinary (field_of server_nonce_key elements) said.server_nonce
   pub sts_host : Required ReadsText (field_of sts_host_key elements) said.sts_host
 
-pub record IsServerMessage (payload : List ℕ) (said : Said) : Type 0 where
-  pub elements : List Element
-  pub well_formed : IsWellFormed payload elements
-  pub table : IsMessageTable elements said
+abbrev pub IsServerMessage : List ℕ → Said → Type 0
+IsServerMessage payload said = HoldsTable IsMessageTable payload said
 
 -- what a message says that borrows it
 abbrev pub said_of : ServerMessage → Said

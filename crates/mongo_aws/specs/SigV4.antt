@@ -36,13 +36,18 @@ unfoldable pub signature : List ℕ → List ℕ → List ℕ → List Header �
 signature secret date region headers =
     encode_lower (hmac_sha256 (signing_key secret (day_of date) region service) (string_to_sign (scope (day_of date) region) date headers))
 
+-- Credential, SignedHeaders and Signature, of their values
+abbrev pub header_text : List ℕ → List ℕ → List ℕ → List ℕ → List ℕ
+header_text access_key credential_scope names signed =
+    algorithm
+    ++ codes " Credential=" ++ access_key ++ codes "/" ++ credential_scope
+    ++ codes ", SignedHeaders=" ++ names
+    ++ codes ", Signature=" ++ signed
+
 -- the request's header `Authorization`
 unfoldable pub authorization : List ℕ → List ℕ → List ℕ → List ℕ → List Header → List ℕ
 authorization access_key secret date region headers =
-    algorithm
-    ++ codes " Credential=" ++ access_key ++ codes "/" ++ scope (day_of date) region
-    ++ codes ", SignedHeaders=" ++ signed_headers headers
-    ++ codes ", Signature=" ++ signature secret date region headers
+    header_text access_key (scope (day_of date) region) (signed_headers headers) (signature secret date region headers)
 
 -- the headers that these credentials sign
 abbrev pub headers_of : AwsCredentials → List ℕ → List ℕ → List ℕ → List Header

@@ -6,7 +6,7 @@ ghost use Rattle.mongo_wire.specs.declared.error.ErrorKind.TheVariants.{OutOfMem
 ghost use Rattle.mongo_aws.specs.CanonicalRequest.{headers_in};
 ghost use Rattle.mongo_aws.specs.Date.{day_of};
 ghost use Rattle.mongo_aws.specs.Scope.{scope};
-ghost use Rattle.mongo_aws.specs.SigV4.{authorization, signature, string_to_sign};
+ghost use Rattle.mongo_aws.specs.SigV4.{authorization, header_text, signature, string_to_sign};
 
 use crate::ascii::ascii;
 use crate::canonical_request::{Request, canonical_request_hash, signed_headers};
@@ -35,7 +35,6 @@ pub(crate) struct Signer<'a> {
 }
 
 /// The header `Authorization` of a request.
-#[tactic(auto, unfolding(crate::specs::SigV4::authorization))]
 pub(crate) fn authorization(
     alloc: Global,
     signer: &Signer<'_>,
@@ -47,15 +46,35 @@ pub(crate) fn authorization(
 {
     let scope = scope_of(alloc, signer)?;
     let signature = signature(alloc, signer, &scope, request)?;
+    header_text(
+        alloc,
+        signer.access_key,
+        scope.as_str(),
+        signed_headers(request.token),
+        signature.as_str(),
+    )
+}
+
+// The header of its values.
+fn header_text(
+    alloc: Global,
+    access_key: &str,
+    credential_scope: &str,
+    names: &str,
+    signature: &str,
+) -> Result<Text, Error>
+    ensures text { IfOk result (λ text. text ≡ header_text access_key.now credential_scope.now names.now signature.now) }
+    ensures refused { IfErr result (λ e. e.kind ≡ OutOfMemory) }
+{
     let mut header = Text::from_slice(alloc, ALGORITHM)?;
     header.push_str(" Credential=")?;
-    header.push_str(signer.access_key)?;
+    header.push_str(access_key)?;
     header.push_str("/")?;
-    header.push_str(scope.as_str())?;
+    header.push_str(credential_scope)?;
     header.push_str(", SignedHeaders=")?;
-    header.push_str(signed_headers(request.token))?;
+    header.push_str(names)?;
     header.push_str(", Signature=")?;
-    header.push_str(signature.as_str())?;
+    header.push_str(signature)?;
     Ok(header)
 }
 

@@ -17,6 +17,7 @@ pub(crate) const SCOPE_END: &str = "aws4_request";
 /// HMAC-SHA-256 from the secret key on, over these and `aws4_request`, one after the other.
 ///
 /// Want of memory is the only refusal.
+#[tactic(auto, unfolding(crate::specs::SigningKey::signing_key))]
 pub fn signing_key(
     alloc: Global,
     secret_key: &str,

@@ -1,10 +1,10 @@
-ghost use Rattle.std.specs.Prelude.{◌≡◌, ◌⊎◌, ℕ, List, OnOk, IfOk, IfErr};
+ghost use Rattle.std.specs.Prelude.{◌≡◌, ◌⊎◌, ◌↔◌, IsTrue, ℕ, List, OnOk, IfOk, IfErr};
 ghost use Rattle.mongo_bson.specs.declared.fault.BsonFault.TheVariants.{OutOfMemory as NoMemory};
 ghost use Rattle.mongo_wire.specs.declared.error.ErrorKind.TheVariants.{OutOfMemory};
 ghost use Rattle.mongo_sasl.specs.Reply.{IsSaslReply};
 ghost use Rattle.mongo_sasl.specs.View.{sasl_response_of, kind_of_field_fault};
 ghost use Rattle.mongo_aws.specs.Replies.{CarriesFirst, FirstReplyRow};
-ghost use Rattle.mongo_aws.specs.Validity.{IsValidFirst, ServerFirstRow};
+ghost use Rattle.mongo_aws.specs.Validity.{BeginsWith, IsValidFirst, ServerFirstRow};
 
 use crate::server_message::read_message;
 use crate::sts_host::{LONGEST_HOST, has_host_characters, has_no_empty_label};
@@ -59,7 +59,7 @@ impl ServerFirst {
         if self.done {
             return Err(refused(AuthFault::EndedEarly));
         }
-        if !self.server_nonce.as_bytes().starts_with(nonce) {
+        if !begins_with(self.server_nonce.as_bytes(), nonce) {
             return Err(refused(AuthFault::Nonce));
         }
         if self.server_nonce.as_bytes().len() != SERVER_NONCE_LENGTH {
@@ -92,6 +92,13 @@ impl ServerFirst {
             done: self.done,
         })
     }
+}
+
+// Whether a nonce begins with ours.
+fn begins_with(nonce: &[u8], ours: &[u8]) -> bool
+    ensures { IsTrue result ↔ BeginsWith nonce.now ours.now }
+{
+    nonce.starts_with(ours)
 }
 
 // The server's first message, from what the reply says.

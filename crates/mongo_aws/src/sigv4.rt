@@ -38,8 +38,9 @@ pub fn compute_aws_sigv4_payload(
     ensures refused { IfErr result (λ e. SigningRefused creds.now (milliseconds_of date) host.now server_nonce.now e.kind) }
 {
     check_signable(creds, host)?;
+    let date = date_of(date);
     let nonce = encoded(alloc, server_nonce)?;
-    signed_payload(alloc, creds, &date_of(date), host, nonce.as_str())
+    signed_payload(alloc, creds, &date, host, nonce.as_str())
 }
 
 // Whether the host and the credentials can be signed with.
