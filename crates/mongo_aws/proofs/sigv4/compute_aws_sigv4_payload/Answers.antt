@@ -10,7 +10,7 @@ returns-in_err-nonce-clause-refused c =
     no_memory c.from_residual-in_err-nonce.result (SigningRefused c.args.creds.now (milliseconds_of c.args.date) c.args.host.now c.args.server_nonce.now) c.from_residual-in_err-nonce.ensures.1
     (inr (record {
       can_sign = c.in_ok-check_signable.ensures.signable;
-      document = signed_document c.args.creds.now c.date_of.result c.args.host.now c.args.server_nonce.now;
-      signed = record { date = c.date_of.result; is_date = c.date_of.ensures.date; document_is = refl };
+      document = signed_document c.args.creds.now c.date_of-date.result c.args.host.now c.args.server_nonce.now;
+      signed = record { date = c.date_of-date.result; is_date = c.date_of-date.ensures.date; document_is = refl };
       refused = tt;
     }))
