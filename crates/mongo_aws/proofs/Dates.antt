@@ -63,4 +63,4 @@ low_digit : (n : ℕ) → digit n < 128
 low_digit n = grind arith
 
 pub ascii_date : (c : CivilSecond) → IsAscii (date_text c)
-ascii_date c = IsAscii-from_all (date_text c) (low_digit _ , (low_digit _ , (low_digit _ , (low_digit _ , (low_digit _ , (low_digit _ , (low_digit _ , (low_digit _ , (lit< tt , (low_digit _ , (low_digit _ , (low_digit _ , (low_digit _ , (low_digit _ , (low_digit _ , (lit< tt , tt))))))))))))))))
+ascii_date c = IsAscii-from_all (date_text c) (low_digit _, (low_digit _, (low_digit _, (low_digit _, (low_digit _, (low_digit _, (low_digit _, (low_digit _, (lit< tt, (low_digit _, (low_digit _, (low_digit _, (low_digit _, (low_digit _, (low_digit _, (lit< tt, tt))))))))))))))))

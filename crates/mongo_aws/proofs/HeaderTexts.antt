@@ -52,7 +52,7 @@ whole_request token date host nonce first line_end names names_end hashed begins
 -- ---- hex
 
 ascii_digits : IsAscii lower_digits
-ascii_digits = IsAscii-from_all lower_digits (lit< tt , (lit< tt , (lit< tt , (lit< tt , (lit< tt , (lit< tt , (lit< tt , (lit< tt , (lit< tt , (lit< tt , (lit< tt , (lit< tt , (lit< tt , (lit< tt , (lit< tt , (lit< tt , (tt)))))))))))))))))
+ascii_digits = IsAscii-from_all lower_digits (lit< tt, (lit< tt, (lit< tt, (lit< tt, (lit< tt, (lit< tt, (lit< tt, (lit< tt, (lit< tt, (lit< tt, (lit< tt, (lit< tt, (lit< tt, (lit< tt, (lit< tt, (lit< tt, (tt)))))))))))))))))
 
 pub ascii_hex : (bytes : List ℕ) → IsAscii (encode_lower bytes)
 ascii_hex bytes = IsAscii-encode_with lower_digits bytes ascii_digits

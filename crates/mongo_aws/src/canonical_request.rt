@@ -19,7 +19,8 @@ const SIGNED_HEADERS: &str =
     "content-length;content-type;host;x-amz-date;x-mongodb-gs2-cb-flag;x-mongodb-server-nonce";
 
 // The same of a request with a session token.
-const SIGNED_HEADERS_WITH_TOKEN: &str = "content-length;content-type;host;x-amz-date;x-amz-security-token;x-mongodb-gs2-cb-flag;x-mongodb-server-nonce";
+const SIGNED_HEADERS_WITH_TOKEN: &str =
+    "content-length;content-type;host;x-amz-date;x-amz-security-token;x-mongodb-gs2-cb-flag;x-mongodb-server-nonce";
 
 /// What differs from request to request.
 #[derive(Clone, Copy, Drop)]

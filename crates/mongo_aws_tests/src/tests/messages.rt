@@ -115,7 +115,11 @@ fn message_of(alloc: Global, fields: &str) -> Result<RawDocumentBuf, Fail> {
         };
         let word = words.next().unwrap_or("-");
         let value = if word.len() == 1 && word != "-" && word != "." {
-            nonce_of(alloc, word, words.next().unwrap_or("").parse::<usize>().unwrap_or(0))?
+            nonce_of(
+                alloc,
+                word,
+                words.next().unwrap_or("").parse::<usize>().unwrap_or(0),
+            )?
         } else {
             host_of(alloc, word)?
         };
@@ -179,7 +183,11 @@ const NO_DOCUMENTS: [&[u8]; 4] = [b"", b"\x05\0\0\0", b"\x05\0\0\0\x01", b"\x06\
 #[test]
 fn payloads_that_are_no_document(rt: HostRuntime) -> Result<(), Fail> {
     for payload in NO_DOCUMENTS {
-        wants("no document", fault_of(server_first(rt.alloc(), "ok", payload)), "Malformed")?;
+        wants(
+            "no document",
+            fault_of(server_first(rt.alloc(), "ok", payload)),
+            "Malformed",
+        )?;
     }
     Ok(())
 }
