@@ -5,3 +5,4 @@ mod Json
 mod Naming
 mod Outcomes
 mod Relayed
+mod Told

@@ -14,6 +14,7 @@ read_back : List ℕ → Job
 read_back name = if bytes_eq name (codes "batch") then Login task.Batch else (if bytes_eq name (codes "proxy") then Proxy else Login task.Rehearse)
 
 name_back : (job : Job) → read_back (job_name job) ≡ job
+unfolding read_back
 name_back (Login task.Rehearse) = refl
 name_back (Login task.Batch) = refl
 name_back Proxy = refl

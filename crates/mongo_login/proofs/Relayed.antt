@@ -3,7 +3,7 @@ use Rattle.std.proofs.Common.{◌≡◌, ℕ, ℤ, ◌<◌, ◌≤◌, ◌⊎◌
 use Rattle.std.specs.Io.KnownBytes.{Appends, Consumes}
 use Rattle.mongo_wire.specs.Header.{maximum_of}
 use Rattle.mongo_wire.specs.Outside.{HasEnded}
-use Rattle.mongo_proxy.specs.RelayedFrames.{RelayedFrame, commands, replies, taken_of}
+use Rattle.mongo_proxy.specs.RelayedFrames.{RelayedFrame, Stand, commands, replies, taken_of}
 use Rattle.mongo_proxy.specs.Relays.{EndsWhole, HasRelayed, RelaysWhole}
 use Rattle.mongo_proxy.specs.Script.{IsScript}
 use Rattle.mongo_proxy.specs.Sides.{Sides}
@@ -22,25 +22,27 @@ rest_of : (bytes taken : List ℕ) (now : Option (List ℕ)) → Consumes (Some 
 rest_of bytes taken None c = absurd c
 rest_of bytes taken (Some left) c = (left, refl, c)
 
+-- the client's bytes end behind the frames, or as many as are wanted stand there
+script_ends : (ended : Bool) (most : ℕ) (between after : Sides) (stand : Stand) (relayed : List RelayedFrame) (rest : List ℕ) → between.client.left ≡ Some rest → EndsWhole ended most between after stand relayed → (most ≤ length relayed) ⊎ ((stand.awaited ≡ Command) × (rest ≡ []))
+script_ends false most between after stand relayed rest left e = inl (omega (arith, e.0))
+script_ends true most between after stand relayed rest left e = inr (e.1.awaits, subst (λ left. IfSome left (λ bytes. bytes ≡ [])) left e.1.ended.none)
+
 -- frames that were relayed to the end are a script
 holds_script : (asked : ProxySettings) (text : List ℕ) → TellsWhole asked text → HoldsScript asked
-holds_script asked text w = (w.relays.relayed, record {
-  after = w.relays.after;
-  follow = w.relays.has_relayed.follow;
-  each = w.relays.has_relayed.each;
-  client_rest = client.0;
-  server_rest = server.0;
-  client_is = ap Some client.2;
-  server_is = ap Some server.2;
-  ends = ends w.done.ended w.relays.ends;
-})
-  where
-    client = rest_of asked.commands (taken_of (commands w.relays.relayed)) w.relays.between.client.left w.relays.has_relayed.client.consumed
-    server = rest_of asked.replies (taken_of (replies w.relays.relayed)) w.relays.between.server.left w.relays.has_relayed.server.consumed
-
-    ends : (ended : Bool) → EndsWhole ended (most_of asked) w.relays.between w.after w.relays.after w.relays.relayed → (most_of asked ≤ length w.relays.relayed) ⊎ ((w.relays.after.awaited ≡ Command) × (client.0 ≡ []))
-    ends false e = inl (omega (arith, e.0))
-    ends true e = inr (e.1.awaits, subst (λ left. IfSome left (λ bytes. bytes ≡ [])) client.1 e.1.ended.none)
+holds_script asked text w =
+    let r = w.relays in
+    let client = rest_of asked.commands (taken_of (commands r.relayed)) r.between.client.left r.has_relayed.client.consumed in
+    let server = rest_of asked.replies (taken_of (replies r.relayed)) r.between.server.left r.has_relayed.server.consumed in
+    (r.relayed, record {
+      after = r.after;
+      follow = r.has_relayed.follow;
+      each = r.has_relayed.each;
+      client_rest = client.0;
+      server_rest = server.0;
+      client_is = ap Some client.2;
+      server_is = ap Some server.2;
+      ends = script_ends w.done.ended (most_of asked) r.between w.after r.after r.relayed client.0 client.1 r.ends;
+    })
 
 -- a relay that was refused met none
 no_script : (asked : ProxySettings) (text : List ℕ) → TellsCut asked text → HoldsScript asked → ⊥
