@@ -1,11 +1,9 @@
 -- What a relay in memory tells.
-use Rattle.std.proofs.Common.{◌≡◌, ℕ, ℤ, ◌<◌, ◌≤◌, ◌⊎◌, Bool, true, false, Option, None, Some, Result, Ok, Err, List, [], ◌∷◌, ◌++◌, length, IfSome, inl, inr, refl, sym, ap, ◌∙◌, subst, arith}
-use Rattle.std.specs.Io.KnownBytes.{Appends, Consumes}
+use Rattle.std.proofs.Common.{◌≡◌, ℕ, ◌≤◌, ◌⊎◌, Bool, true, false, Option, None, Some, Err, List, [], ◌++◌, length, IfSome, inl, inr, refl, ap, subst, arith}
+use Rattle.std.specs.Io.KnownBytes.{Consumes}
 use Rattle.mongo_wire.specs.Header.{maximum_of}
-use Rattle.mongo_wire.specs.Outside.{HasEnded}
 use Rattle.mongo_proxy.specs.RelayedFrames.{RelayedFrame, Stand, commands, replies, taken_of}
-use Rattle.mongo_proxy.specs.Relays.{EndsWhole, HasRelayed, RelaysWhole}
-use Rattle.mongo_proxy.specs.Script.{IsScript}
+use Rattle.mongo_proxy.specs.Relays.{EndsWhole}
 use Rattle.mongo_proxy.specs.Sides.{Sides}
 use Rattle.mongo_proxy.specs.declared.awaited.Awaited.TheVariants.{Command}
 use Rattle.mongo_proxy.proofs.Scripts.{completes}
@@ -32,17 +30,19 @@ holds_script : (asked : ProxySettings) (text : List ℕ) → TellsWhole asked te
 holds_script asked text w =
     let r = w.relays in
     let client = rest_of asked.commands (taken_of (commands r.relayed)) r.between.client.left r.has_relayed.client.consumed in
-    let server = rest_of asked.replies (taken_of (replies r.relayed)) r.between.server.left r.has_relayed.server.consumed in
-    (r.relayed, record {
-      after = r.after;
-      follow = r.has_relayed.follow;
-      each = r.has_relayed.each;
-      client_rest = client.0;
-      server_rest = server.0;
-      client_is = ap Some client.2;
-      server_is = ap Some server.2;
-      ends = script_ends w.done.ended (most_of asked) r.between w.after r.after r.relayed client.0 client.1 r.ends;
-    })
+    let server = rest_of asked.replies (taken_of (replies r.relayed)) r.between.server.left r.has_relayed.server.consumed in (
+      r.relayed,
+      record {
+        after = r.after;
+        follow = r.has_relayed.follow;
+        each = r.has_relayed.each;
+        client_rest = client.0;
+        server_rest = server.0;
+        client_is = ap Some client.2;
+        server_is = ap Some server.2;
+        ends = script_ends w.done.ended (most_of asked) r.between w.after r.after r.relayed client.0 client.1 r.ends;
+      },
+    )
 
 -- a relay that was refused met none
 no_script : (asked : ProxySettings) (text : List ℕ) → TellsCut asked text → HoldsScript asked → ⊥

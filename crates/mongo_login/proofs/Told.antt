@@ -1,10 +1,10 @@
 -- What a relay between two links in memory tells.
-use Rattle.std.proofs.Common.{◌≡◌, ℕ, ℤ, ◌+◌, ◌^◌, ◌<◌, ◌≤◌, Bool, true, false, Option, None, Some, Result, Ok, Err, IfOk, List, [], ◌∷◌, ◌++◌, length, flat_map, refl, sym, ap, ◌∙◌, subst, arith}
+use Rattle.std.proofs.Common.{◌≡◌, ℕ, ℤ, ◌+◌, ◌^◌, ◌<◌, Bool, true, false, Option, None, Some, Result, Ok, Err, IfOk, List, [], ◌∷◌, ◌++◌, length, flat_map, refl, sym, ap, ◌∙◌, subst, arith, length-append, drop}
 use Rattle.std.proofs.lemmas.Nat.{from_le_bytes-to_le_bytes_4}
 use Rattle.std.specs.Int.{from_le_bytes, w32}
 use Rattle.std.specs.Io.KnownBytes.{Appends}
 use Rattle.std.specs.List.{AllByRecursion, concat}
-use Rattle.mongo_wire.specs.Frame.{Frame, IsFrame, section_bytes, uint32}
+use Rattle.mongo_wire.specs.Frame.{Frame, IsFrame, section_bytes}
 use Rattle.mongo_wire.specs.Header.{maximum_of}
 use Rattle.mongo_wire.specs.Memory.{memory_state, bytes_written}
 use Rattle.mongo_wire.specs.Outside.{State, Rose, WriteStops, Unfailed}
@@ -12,7 +12,7 @@ use Rattle.mongo_wire.specs.Sending.{sections_frame}
 use Rattle.mongo_wire.specs.declared.error.ErrorKind.{ErrorKind}
 use Rattle.mongo_wire.specs.declared.error.ErrorKind.TheVariants.{OutOfMemory, WriteFault}
 use Rattle.mongo_wire.specs.declared.memory_link.MemoryLink.{MemoryLink}
-use Rattle.mongo_proxy.specs.RelayedFrames.{RelayedFrame, command, reply, commands, replies, Passed, Stand, Follow, IsNextOf, beginning, sent_of}
+use Rattle.mongo_proxy.specs.RelayedFrames.{RelayedFrame, command, reply, commands, replies, Passed, Stand, Follow, IsNextOf, beginning, responds_to, sent_of}
 use Rattle.mongo_proxy.specs.Relays.{EndsWhole, HasRelayed, RelaysWhole, RelaysCut}
 use Rattle.mongo_proxy.specs.Sides.{Sides, sides, Lasts}
 use Rattle.mongo_proxy.specs.Stops.{StopsOn}
@@ -24,7 +24,6 @@ use Rattle.mongo_proxy.specs.declared.relayed.Side.{Side}
 use Rattle.mongo_proxy.specs.declared.relayed.Side.TheVariants.{Client, Server}
 use Rattle.mongo_settings.specs.Report.{CountsItself}
 use Rattle.mongo_settings.specs.declared.rehearsal.Rehearsal.{Rehearsal}
-use Rattle.mongo_settings.specs.declared.rehearsal.RehearsalStatus.{RehearsalStatus}
 use Rattle.mongo_settings.specs.declared.rehearsal.RehearsalStatus.TheVariants.{Accepted, Refused}
 use Rattle.mongo_login.specs.declared.proxy.ProxySettings.{ProxySettings}
 use Rattle.mongo_login.specs.Proxy.{TellsCut, TellsRelay, TellsWhole, count_lines, fault_lines, in_memory, most_of, sent_frames, sides_of, traffic_lines}
@@ -40,15 +39,15 @@ counts_sent sent id to flags sections spelled fits =
     }
 
 sections_fit : (frame : List ℕ) (parts : Frame) (is : IsFrame frame parts) → 20 + length (flat_map section_bytes is.sections) < 2 ^ 32
-sections_fit frame parts is = omega (arith, ap length is.spelled, is.length_fits)
+sections_fit frame parts is = omega (arith, ap length is.spelled, length-append (flat_map section_bytes is.sections) is.tail, is.length_fits)
 
 command_counts : (waits : Awaited) (id : ℤ) (c : Passed) (after : Stand) → IsNextOf waits id (command c) after → CountsItself c.sent
-command_counts awaited.Command id c after is = counts_sent c.sent _ _ _ _ is.0.sent_is (sections_fit c.frame is.0.parts is.0.is_frame)
+command_counts awaited.Command id c after is = counts_sent c.sent c.id is.0.parts.response_to is.0.parts.flags (flat_map section_bytes is.0.is_frame.sections) is.0.sent_is (sections_fit c.frame is.0.parts is.0.is_frame)
 command_counts (awaited.Reply asked) id c after is = absurd is
 
 reply_counts : (waits : Awaited) (id : ℤ) (r : Passed) (after : Stand) → IsNextOf waits id (reply r) after → CountsItself r.sent
 reply_counts awaited.Command id r after is = absurd is
-reply_counts (awaited.Reply asked) id r after is = counts_sent r.sent _ _ _ _ is.0.sent_is (sections_fit r.frame is.0.parts is.0.is_frame)
+reply_counts (awaited.Reply asked) id r after is = counts_sent r.sent r.id (responds_to asked is.0.parts.response_to) is.0.parts.flags (flat_map section_bytes is.0.is_frame.sections) is.0.sent_is (sections_fit r.frame is.0.parts is.0.is_frame)
 
 command_frames : (before after : Stand) (relayed : List RelayedFrame) → Follow before relayed after → AllByRecursion CountsItself (sent_frames (commands relayed))
 command_frames before after [] f = tt
@@ -97,18 +96,19 @@ TellsSent to_server to_client rest text = (sent answered : List (List ℕ)) → 
 
 pub tells_whole : (asked : ProxySettings) (first last : ℤ) (most : ℕ) (old : Sides) (client server : MemoryLink) (done : Relayed) (text : List ℕ) → old ≡ sides_of asked → first ≡ asked.first_id → most ≡ most_of asked
     → RelaysWhole (maximum_of None) most first last old (sides (memory_state client) (memory_state server)) done → TellsSent (bytes_written server) (bytes_written client) (count_lines done) text → TellsWhole asked text
-tells_whole asked first last most old client server done text old_is first_is most_is w told = by first most old first_is most_is old_is w
-  where
-    by : (first : ℤ) (most : ℕ) (old : Sides) → first ≡ asked.first_id → most ≡ most_of asked → old ≡ sides_of asked → RelaysWhole (maximum_of None) most first last old (sides (memory_state client) (memory_state server)) done → TellsWhole asked text
-    by first most old refl refl refl w =
-        let s = whole_sent (maximum_of None) asked.first_id asked (most_of asked) done.ended w.between w.after w.relayed client server w.has_relayed w.ends in
-        record {
-          done = done;
-          last = last;
-          after = sides (memory_state client) (memory_state server);
-          relays = w;
-          text_is = told _ _ (command_frames (beginning asked.first_id) w.after w.relayed w.has_relayed.follow) (reply_frames (beginning asked.first_id) w.after w.relayed w.has_relayed.follow) s.to_server s.to_client;
-        }
+tells_whole asked first last most old client server done text old_is first_is most_is whole told =
+    let new = sides (memory_state client) (memory_state server) in
+    let from = subst (λ o. RelaysWhole (maximum_of None) most first last o new done) old_is whole in
+    let named = subst (λ f. RelaysWhole (maximum_of None) most f last (sides_of asked) new done) first_is from in
+    let w = subst (λ m. RelaysWhole (maximum_of None) m asked.first_id last (sides_of asked) new done) most_is named in
+    let s = whole_sent (maximum_of None) asked.first_id asked (most_of asked) done.ended w.between w.after w.relayed client server w.has_relayed w.ends in
+    record {
+      done = done;
+      last = last;
+      after = new;
+      relays = w;
+      text_is = told (sent_frames (commands w.relayed)) (sent_frames (replies w.relayed)) (command_frames (beginning asked.first_id) w.after w.relayed w.has_relayed.follow) (reply_frames (beginning asked.first_id) w.after w.relayed w.has_relayed.follow) s.to_server s.to_client;
+    }
 
 -- ---- a relay that was refused
 
@@ -139,26 +139,33 @@ kept Client kind maximum first id last asked relayed between client server (awai
 
 pub tells_cut : (asked : ProxySettings) (first last : ℤ) (most : ℕ) (old : Sides) (client server : MemoryLink) (fault : RelayFault) (text : List ℕ) → old ≡ sides_of asked → first ≡ asked.first_id → most ≡ most_of asked
     → RelaysCut (maximum_of None) most first last old (sides (memory_state client) (memory_state server)) fault → (fault.error.kind ≡ OutOfMemory → ⊥) → TellsSent (bytes_written server) (bytes_written client) (count_lines fault.done ++ fault_lines fault) text → TellsCut asked text
-tells_cut asked first last most old client server fault text old_is first_is most_is c other told = by first most old first_is most_is old_is c
-  where
-    by : (first : ℤ) (most : ℕ) (old : Sides) → first ≡ asked.first_id → most ≡ most_of asked → old ≡ sides_of asked → RelaysCut (maximum_of None) most first last old (sides (memory_state client) (memory_state server)) fault → TellsCut asked text
-    by first most old refl refl refl c =
-        let k = kept fault.side fault.error.kind (maximum_of None) asked.first_id c.after.id last asked c.relayed c.between client server c.after.awaited c.after c.has_relayed other c.stops in
-        let s = sent (maximum_of None) asked.first_id asked c.between c.after c.relayed client server c.has_relayed k.client_is k.server_is in
-        record {
-          fault = fault;
-          last = last;
-          after = sides (memory_state client) (memory_state server);
-          relays = c;
-          unfailed = record { client = unfailed asked.commands client; server = unfailed asked.replies server };
-          cause = other;
-          text_is = told _ _ (command_frames (beginning asked.first_id) c.after c.relayed c.has_relayed.follow) (reply_frames (beginning asked.first_id) c.after c.relayed c.has_relayed.follow) s.to_server s.to_client;
-        }
+tells_cut asked first last most old client server fault text old_is first_is most_is cut other told =
+    let new = sides (memory_state client) (memory_state server) in
+    let from = subst (λ o. RelaysCut (maximum_of None) most first last o new fault) old_is cut in
+    let named = subst (λ f. RelaysCut (maximum_of None) most f last (sides_of asked) new fault) first_is from in
+    let c = subst (λ m. RelaysCut (maximum_of None) m asked.first_id last (sides_of asked) new fault) most_is named in
+    let k = kept fault.side fault.error.kind (maximum_of None) asked.first_id c.after.id last asked c.relayed c.between client server c.after.awaited c.after c.has_relayed other c.stops in
+    let s = sent (maximum_of None) asked.first_id asked c.between c.after c.relayed client server c.has_relayed k.client_is k.server_is in
+    record {
+      fault = fault;
+      last = last;
+      after = new;
+      relays = c;
+      unfailed = record { client = unfailed asked.commands client; server = unfailed asked.replies server };
+      cause = other;
+      text_is = told (sent_frames (commands c.relayed)) (sent_frames (replies c.relayed)) (command_frames (beginning asked.first_id) c.after c.relayed c.has_relayed.follow) (reply_frames (beginning asked.first_id) c.after c.relayed c.has_relayed.follow) s.to_server s.to_client;
+    }
 
 -- ---- what is answered
 
+-- a link that never failed, by its parts
+abbrev parts : List ℕ → ℕ → List ℕ → ℕ → State
+parts left ends written flushed = record { left = Some left; read_faults = 0; ends = ends; written = Some written; flushed = flushed; write_faults = 0 }
+
 pub memory_new : (link : MemoryLink) (bytes : List ℕ) → link.input.items ≡ bytes → link.at ≡ 0 → link.output.items ≡ [] → link.flushed ≡ 0 → link.ends ≡ 0 → memory_state link ≡ in_memory bytes
-memory_new link bytes input at output flushed ends = rw (input, at, output, flushed, ends) refl
+memory_new link bytes input at output flushed ends =
+    ap (λ i. parts (drop link.at i) link.ends link.output.items link.flushed) input ∙ ap (λ a. parts (drop a bytes) link.ends link.output.items link.flushed) at ∙ ap (λ e. parts bytes e link.output.items link.flushed) ends
+    ∙ ap (λ o. parts bytes 0 o link.flushed) output ∙ ap (λ f. parts bytes 0 [] f) flushed
 
 pub two_sides : (client server : MemoryLink) (asked : ProxySettings) → memory_state client ≡ in_memory asked.commands → memory_state server ≡ in_memory asked.replies → sides (memory_state client) (memory_state server) ≡ sides_of asked
 two_sides client server asked c s = rw (c, s) refl
