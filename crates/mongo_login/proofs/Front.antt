@@ -10,7 +10,11 @@ use Rattle.mongo_settings.specs.declared.task.Task.{Task}
 use Rattle.mongo_settings.specs.declared.task.Task.TheVariants.{Rehearse, Batch}
 use Rattle.mongo_settings.specs.Settings.{maximum_settings_length, value_judged, judged}
 use Rattle.mongo_settings.specs.Logins.{logins_judged}
-use Rattle.mongo_settings.specs.Task.{judged_as}
+use Rattle.mongo_settings.specs.Task as task
+use Rattle.mongo_login.specs.declared.job.Job.{Job}
+use Rattle.mongo_login.specs.declared.job.Job.TheVariants.{Login, Proxy}
+use Rattle.mongo_login.specs.Job.{judged_as}
+use Rattle.mongo_login.specs.Proxy.{proxy_judged}
 use Rattle.mongo_login.specs.Input.{ReadsInput}
 use Rattle.mongo_settings.specs.declared.settings.SettingsError.TheVariants.{BadSettings}
 
@@ -66,15 +70,20 @@ value_judged-past_maximum : (text : List ℕ) → maximum_settings_length < leng
 unfolding value_judged
 value_judged-past_maximum text past = rw (lt-leb (length text) maximum_settings_length past) refl
 
-pub judged-past_maximum : (task : Task) (text : List ℕ) → maximum_settings_length < length text → judged_as task text ≡ Err BadSettings
-unfolding judged_as judged logins_judged
-judged-past_maximum Rehearse text past = rw (value_judged-past_maximum text past) refl
-judged-past_maximum Batch text past = rw (value_judged-past_maximum text past) refl
+task_judged-past_maximum : (one : Task) (text : List ℕ) → maximum_settings_length < length text → task.judged_as one text ≡ Err BadSettings
+unfolding task.judged_as judged logins_judged
+task_judged-past_maximum Rehearse text past = rw (value_judged-past_maximum text past) refl
+task_judged-past_maximum Batch text past = rw (value_judged-past_maximum text past) refl
+
+pub judged-past_maximum : (job : Job) (text : List ℕ) → maximum_settings_length < length text → judged_as job text ≡ Err BadSettings
+unfolding judged_as proxy_judged
+judged-past_maximum (Login one) text past = rw (task_judged-past_maximum one text past) refl
+judged-past_maximum Proxy text past = rw (value_judged-past_maximum text past) refl
 
 -- so its front past the greatest length is judged alike
-pub judged-front : (task : Task) (old left : Option (List ℕ)) (held input : List ℕ) → old ≡ Some input → Consumes old left held → length held ≡ maximum_settings_length + 1 → judged_as task held ≡ judged_as task input
-judged-front task old left held input told consumed past =
+pub judged-front : (job : Job) (old left : Option (List ℕ)) (held input : List ℕ) → old ≡ Some input → Consumes old left held → length held ≡ maximum_settings_length + 1 → judged_as job held ≡ judged_as job input
+judged-front job old left held input told consumed past =
     let (rest, is, joined) = held_front old left held input told consumed in
     let longer : maximum_settings_length < length input = omega (arith, ap length joined, length-append held rest) in
     let held_longer : maximum_settings_length < length held = omega arith in
-    judged-past_maximum task held held_longer ∙ sym (judged-past_maximum task input longer)
+    judged-past_maximum job held held_longer ∙ sym (judged-past_maximum job input longer)

@@ -1,3 +1,8 @@
-mod Front
-mod Naming
 mod Ends
+mod FrameLines
+mod Front
+mod Json
+mod Naming
+mod Outcomes
+mod Relayed
+mod Told

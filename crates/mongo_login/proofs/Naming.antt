@@ -1,27 +1,37 @@
 -- Words name one subcommand.
-use Rattle.std.proofs.Common.{◌≡◌, ℕ, ◌∙◌, refl, sym, List, [], ◌∷◌, Bool, false, Result, Ok, Err, IsTrue, ◌↔◌, subst, arith}
+use Rattle.std.specs.Prelude.{bytes_eq, codes, if◌then◌else◌}
+use Rattle.std.proofs.Common.{◌≡◌, ℕ, ◌∙◌, refl, sym, ap, List, [], ◌∷◌, Bool, false, Result, Ok, Err, IsTrue, ◌↔◌, subst, arith}
 use Rattle.std.specs.Str.Parse.{ParsesUnsigned}
 use Rattle.std.proofs.lemmas.Fmt.{parse-decimal}
-use Rattle.mongo_settings.specs.declared.task.Task.{Task}
 use Rattle.mongo_settings.specs.declared.task.Task.TheVariants as task
-use Rattle.mongo_login.specs.declared.words.Subcommand.TheVariants.{Rehearse, Generate}
-use Rattle.mongo_login.specs.Words.{task_name, generate_word, IsCountWord, NamesSubcommand}
+use Rattle.mongo_login.specs.declared.job.Job.{Job}
+use Rattle.mongo_login.specs.declared.job.Job.TheVariants.{Login, Proxy}
+use Rattle.mongo_login.specs.declared.words.Subcommand.TheVariants.{Read, Generate}
+use Rattle.mongo_login.specs.Words.{job_name, generate_word, IsCountWord, NamesSubcommand}
 
-two_names : ◌≡◌ {A = List (List ℕ)} (task_name task.Rehearse ∷ []) (task_name task.Batch ∷ []) → ⊥
-two_names e = cc
+-- the job that a name is read back as
+read_back : List ℕ → Job
+read_back name = if bytes_eq name (codes "batch") then Login task.Batch else (if bytes_eq name (codes "proxy") then Proxy else Login task.Rehearse)
 
-pub one_rehearsal : (words : List (List ℕ)) (task other : Task) → NamesSubcommand words (Rehearse task) → NamesSubcommand words (Rehearse other) → other ≡ task
-one_rehearsal words task.Rehearse task.Rehearse p q = refl
-one_rehearsal words task.Batch task.Batch p q = refl
-one_rehearsal words task.Rehearse task.Batch p q = absurd (two_names (sym p ∙ q))
-one_rehearsal words task.Batch task.Rehearse p q = absurd (two_names (sym q ∙ p))
+name_back : (job : Job) → read_back (job_name job) ≡ job
+unfolding read_back
+name_back (Login task.Rehearse) = refl
+name_back (Login task.Batch) = refl
+name_back Proxy = refl
+
+one_word : (a b : List ℕ) (words : List (List ℕ)) → words ≡ a ∷ [] → words ≡ b ∷ [] → a ≡ b
+one_word a b words p q = cc
+
+-- words name one job
+pub one_job : (words : List (List ℕ)) (job other : Job) → NamesSubcommand words (Read job) → NamesSubcommand words (Read other) → other ≡ job
+one_job words job other p q = sym (name_back other) ∙ ap read_back (sym (one_word (job_name job) (job_name other) words p q)) ∙ name_back job
 
 one_or_two : (a b c : List ℕ) (words : List (List ℕ)) → words ≡ a ∷ [] → words ≡ b ∷ c ∷ [] → ⊥
 one_or_two a b c words p q = cc
 
 -- one word is no pair of them
-pub not_both_tasks : (words : List (List ℕ)) (task : Task) (count : ℕ) → NamesSubcommand words (Rehearse task) → NamesSubcommand words (Generate count) → ⊥
-not_both_tasks words task count p q = one_or_two (task_name task) generate_word q.0 words p q.1
+pub not_both : (words : List (List ℕ)) (job : Job) (count : ℕ) → NamesSubcommand words (Read job) → NamesSubcommand words (Generate count) → ⊥
+not_both words job count p q = one_or_two (job_name job) generate_word q.0 words p q.1
 
 -- a word that is a count is read as it
 pub count_word_read : {E : Type 0} (word : List ℕ) (count : ℕ) (r : Result ℕ E) → IsCountWord word count → ParsesUnsigned 32 10 word r → r ≡ Ok count

@@ -1,13 +1,16 @@
 -- The subcommands, by the words after the program's name.
 use Rattle.std.specs.Prelude.{◌≡◌, ℕ, ◌≤◌, List, [], ◌∷◌, codes, decimal}
-use Rattle.mongo_settings.specs.declared.task.Task.{Task}
 use Rattle.mongo_settings.specs.declared.task.Task.TheVariants as task
+use Rattle.mongo_login.specs.declared.job.Job.{Job}
+use Rattle.mongo_login.specs.declared.job.Job.TheVariants.{Login, Proxy}
 use Rattle.mongo_login.specs.declared.words.Subcommand.{Subcommand}
-use Rattle.mongo_login.specs.declared.words.Subcommand.TheVariants.{Rehearse, Generate}
+use Rattle.mongo_login.specs.declared.words.Subcommand.TheVariants.{Read, Generate}
 
-abbrev pub task_name : Task → List ℕ
-task_name task.Rehearse = codes "rehearse"
-task_name task.Batch = codes "batch"
+-- a job that reads a text
+abbrev pub job_name : Job → List ℕ
+job_name (Login task.Rehearse) = codes "rehearse"
+job_name (Login task.Batch) = codes "batch"
+job_name Proxy = codes "proxy"
 
 abbrev pub generate_word : List ℕ
 generate_word = codes "generate"
@@ -22,9 +25,9 @@ pub record IsCountWord (word : List ℕ) (count : ℕ) : Type 0 where
   pub some : 1 ≤ count
   pub within : count ≤ maximum_logins
 
--- a task's name alone, or `generate` and a number
+-- a job's name alone, or `generate` and a number
 abbrev pub NamesSubcommand : List (List ℕ) → Subcommand → Type 0
-NamesSubcommand words (Rehearse task) = words ≡ task_name task ∷ []
+NamesSubcommand words (Read job) = words ≡ job_name job ∷ []
 NamesSubcommand words (Generate count) = (number : List ℕ) × (words ≡ generate_word ∷ number ∷ []) × IsCountWord number count
 
 abbrev pub NamesNone : List (List ℕ) → Type 0

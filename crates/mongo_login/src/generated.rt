@@ -1,15 +1,38 @@
-//! What is told of logins that were made.
-ghost use Rattle.std.specs.Prelude.{◌≡◌, ◌++◌, [], ◌∷◌, decimal, IfOk, OnOk};
-ghost use Rattle.mongo_settings.specs.Line.{line};
-ghost use Rattle.mongo_login.specs.Generated.{generated_text};
+//! `generate`: logins against a server of the program's own.
+ghost use Rattle.std.specs.Prelude.{◌≡◌, ◌≤◌, IfOk};
+ghost use Rattle.mongo_settings.specs.Task.{steps_of};
+ghost use Rattle.mongo_settings.specs.declared.rehearsal.RehearsalStatus.TheVariants.{Accepted};
+ghost use Rattle.mongo_login.specs.Generated.{generated_text, ReportsLogins};
+ghost use Rattle.mongo_login.specs.Words.{maximum_logins};
 
-use mongo_generate::Generated;
-use mongo_settings::{begin_line, end_line, push_hex, push_number};
+use crate::lines::push_count;
+use mongo_generate::{Generated, generate};
+use mongo_mac::Steps;
+use mongo_settings::{Rehearsal, RehearsalStatus, begin_line, end_line, push_hex};
 use std::alloc::{AllocError, Global};
+use std::sync::ledger::Ledger;
 
-/// The lines of logins that were made: how many there were, how many of them both sides accepted, the rounds of Hi that the client
-/// derived, and the SHA-256 of their last messages.
-pub fn report(alloc: Global, generated: &Generated) -> Result<Vec<u8>, AllocError>
+/// Makes so many logins with one cache, and reports them.
+pub fn make_logins<G: Ledger>(
+    alloc: Global,
+    count: u32,
+    steps: &mut Steps<G>,
+) -> Result<Rehearsal, AllocError>
+    requires within { count ≤ maximum_logins }
+    ensures accepted { IfOk result (λ made. made.status ≡ Accepted) }
+    ensures reported { IfOk result (λ made. ReportsLogins count (steps_of steps.old steps.new) made.report.items) }
+    ensures steps { steps.old ≤ steps.new }
+{
+    let generated = generate(alloc, count, steps)?;
+    Ok(Rehearsal {
+        status: RehearsalStatus::Accepted,
+        report: report(alloc, &generated)?,
+    })
+}
+
+// The lines of logins that were made: how many there were, how many of them both sides accepted, the rounds of Hi that the client
+// derived, and the SHA-256 of their last messages.
+fn report(alloc: Global, generated: &Generated) -> Result<Vec<u8>, AllocError>
     ensures { IfOk result (λ text. text.items ≡ generated_text generated.now) }
 {
     let mut text = Vec::new(alloc);
@@ -20,13 +43,4 @@ pub fn report(alloc: Global, generated: &Generated) -> Result<Vec<u8>, AllocErro
     push_hex(&mut text, &generated.digest)?;
     end_line(&mut text)?;
     Ok(text)
-}
-
-// Appends a line of a name and a number.
-fn push_count(text: &mut Vec<u8>, name: &str, number: u64) -> Result<(), AllocError>
-    ensures { OnOk result (text.new.items ≡ text.old.items ++ line name.now (decimal number ∷ [])) }
-{
-    begin_line(text, name)?;
-    push_number(text, number)?;
-    end_line(text)
 }

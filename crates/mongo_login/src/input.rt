@@ -1,10 +1,10 @@
 //! Reading the text of settings from a source.
 ghost use Rattle.std.specs.Prelude.{◌≡◌, ℕ, List, Some, ◌+◌, IfOk, OnOk, OnErr, IsErrOf};
-ghost use Rattle.mongo_settings.specs.declared.task.Task.{Task};
 ghost use Rattle.std.specs.Io.KnownBytes.{Consumes};
 ghost use Rattle.mongo_wire.specs.Outside.{ReadsOn, Rose, ConsumesAtMost, NoReadFailed, NoReadEnded};
 ghost use Rattle.mongo_settings.specs.Settings.{maximum_settings_length};
-ghost use Rattle.mongo_settings.specs.Task.{judged_as};
+ghost use Rattle.mongo_login.specs.Job.{judged_as};
+ghost use Rattle.mongo_login.specs.declared.job.Job.{Job};
 ghost use Rattle.mongo_login.specs.Input.{ReadsInput, MeetsEndWithin};
 
 #[cfg(test)]
@@ -23,7 +23,7 @@ const READ_AHEAD: usize = 4096;
 /// than that is consumed.
 pub fn read_input<S: Source>(alloc: Global, source: &mut S) -> Result<Vec<u8>, InputError>
     ensures read { (input : List ℕ) → (S.state source.old).left ≡ Some input → IfOk result (λ held. ReadsInput input held.items (S.state source.new).left) }
-    ensures judged_alike { (task : Task) (input : List ℕ) → (S.state source.old).left ≡ Some input → IfOk result (λ held. judged_as task held.items ≡ judged_as task input) }
+    ensures judged_alike { (job : Job) (input : List ℕ) → (S.state source.old).left ≡ Some input → IfOk result (λ held. judged_as job held.items ≡ judged_as job input) }
     ensures consumed { IfOk result (λ held. Consumes (S.state source.old).left (S.state source.new).left held.items) }
     ensures ended { IfOk result (λ held. MeetsEndWithin held.items (S.state source.old) (S.state source.new)) }
     ensures failed { IsErrOf result InputError.Fault → Rose (S.state source.old).read_faults (S.state source.new).read_faults }

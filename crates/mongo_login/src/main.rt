@@ -4,13 +4,20 @@
 //! - `mongo_login rehearse` reads the settings of one login from standard input and writes its report to standard output.
 //! - `mongo_login batch` reads those of many, which share one cache of salted passwords, and writes their reports and the
 //!   rounds that were derived.
+//! - `mongo_login proxy` reads what a client sends and what a server answers, relays the frames between them, and writes what each was
+//!   sent.
 //! - `mongo_login generate N` reads nothing, makes N logins against a server in memory and writes their count and digest.
 //!
 //! The call that does it is [`run::run`], and its clauses say what each end means.
 #![tactic(auto)]
 
+mod cause;
 mod generated;
 mod input;
+mod job;
+mod lines;
+mod object;
+mod proxy;
 mod run;
 mod words;
 

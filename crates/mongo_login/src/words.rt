@@ -2,6 +2,7 @@
 ghost use Rattle.std.specs.Prelude.{◌≡◌, ◌↔◌, ℕ, [], ◌∷◌, map, string_bytes, decimal, IsTrue, MatchOption};
 ghost use Rattle.mongo_login.specs.Words.{IsCountWord, NamesSubcommand, NamesNone};
 
+use crate::job::Job;
 use itoa::Buffer;
 use mongo_settings::Task;
 
@@ -11,13 +12,13 @@ const MAXIMUM_LOGINS: u32 = 1000;
 /// What the program is asked to do.
 #[derive(Clone, Copy, Debug, PartialEq, Eq)]
 pub enum Subcommand {
-    /// To make the connections that settings ask for.
-    Rehearse(Task),
+    /// To read a text and do what it asks for.
+    Read(Job),
     /// To make so many logins against a server of its own, 1 to 1000.
     Generate(u32),
 }
 
-/// What the words ask for: the name of a task alone, or `generate` and how many logins. None for other words.
+/// What the words ask for: the name of a job alone, or `generate` and how many logins. None for other words.
 pub fn subcommand_in(words: &[String]) -> Option<Subcommand>
     ensures { let texts = map string_bytes words.now in
         MatchOption result (NamesNone texts) (NamesSubcommand texts) }
@@ -29,13 +30,14 @@ pub fn subcommand_in(words: &[String]) -> Option<Subcommand>
     }
 }
 
-// The subcommand of one word: the name of a task.
+// The subcommand of one word: the name of a job.
 fn subcommand_of_one(word: &str) -> Option<Subcommand>
     ensures { MatchOption result (NamesNone (word.now ∷ [])) (NamesSubcommand (word.now ∷ [])) }
 {
     match word {
-        "rehearse" => Some(Subcommand::Rehearse(Task::Rehearse)),
-        "batch" => Some(Subcommand::Rehearse(Task::Batch)),
+        "rehearse" => Some(Subcommand::Read(Job::Login(Task::Rehearse))),
+        "batch" => Some(Subcommand::Read(Job::Login(Task::Batch))),
+        "proxy" => Some(Subcommand::Read(Job::Proxy)),
         _ => None,
     }
 }

@@ -3,6 +3,7 @@ ghost use Rattle.std.specs.Prelude.{◌<◌};
 mod batches;
 mod logins;
 mod million;
+mod proxies;
 mod rows;
 mod vectors;
 
@@ -167,6 +168,8 @@ fn faulty_end(
 // a fault.
 const FAULTS: &str = "rehearse x => none => none => Usage => all
  => none => none => Usage => all
+proxy x => none => none => Usage => all
+proxy => second => none => SourceFault => all but 16
 rehearse => first => none => SourceFault => all
 rehearse => second => none => SourceFault => all but 16
 rehearse => none => first => SinkFault => nothing

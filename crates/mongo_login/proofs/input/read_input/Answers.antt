@@ -32,7 +32,7 @@ returns-clause-read g c =
 pub returns-clause-judged_alike : goal.returns-clause-judged_alike
 returns-clause-judged_alike g c =
     let past : length c.reading.held.items ≡ maximum_settings_length + 1 = omega arith in
-    λ task input told. judged-front task _ _ _ input told c.reading.invariant.front past
+    λ job input told. judged-front job _ _ _ input told c.reading.invariant.front past
 
 pub returns-in-Err-clause-ended : goal.returns-in-Err-clause-ended
 returns-in-Err-clause-ended g c = tt
@@ -44,7 +44,7 @@ pub returns-in-Err-clause-read : goal.returns-in-Err-clause-read
 returns-in-Err-clause-read g c = λ input told. tt
 
 pub returns-in-Err-clause-judged_alike : goal.returns-in-Err-clause-judged_alike
-returns-in-Err-clause-judged_alike g c = λ task input told. tt
+returns-in-Err-clause-judged_alike g c = λ job input told. tt
 
 -- ---- the source has ended
 
@@ -87,7 +87,7 @@ pub returns-in_err-extend_from_slice-in-Ok-clause-read : goal.returns-in_err-ext
 returns-in_err-extend_from_slice-in-Ok-clause-read g c = λ input told. no_ok _ c.from_residual.result c.from_residual.ensures.0
 
 pub returns-in_err-extend_from_slice-in-Ok-clause-judged_alike : goal.returns-in_err-extend_from_slice-in-Ok-clause-judged_alike
-returns-in_err-extend_from_slice-in-Ok-clause-judged_alike g c = λ task input told. no_ok _ c.from_residual.result c.from_residual.ensures.0
+returns-in_err-extend_from_slice-in-Ok-clause-judged_alike g c = λ job input told. no_ok _ c.from_residual.result c.from_residual.ensures.0
 
 pub returns-in_err-extend_from_slice-in-Ok-clause-consumed : goal.returns-in_err-extend_from_slice-in-Ok-clause-consumed
 returns-in_err-extend_from_slice-in-Ok-clause-consumed g c = no_ok _ c.from_residual.result c.from_residual.ensures.0

@@ -15,6 +15,8 @@ pub(super) enum RowForm {
     Settings,
     // Settings of many logins, the status and what is written.
     Batch,
+    // Frames of two sides, the status and what is written.
+    Proxy,
     // Words, the calls of the source and of the sink that fail, the status, and how much of the text is left.
     Faults,
     // Words that read nothing, the status and what is written.
@@ -106,6 +108,7 @@ fn holds(alloc: Global, form: RowForm, row: &str) -> Result<bool, Fail> {
     match form {
         RowForm::Settings => ends_so(alloc, "rehearse", first.as_bytes(), second, "", rest),
         RowForm::Batch => ends_so(alloc, "batch", first.as_bytes(), second, "", rest),
+        RowForm::Proxy => ends_so(alloc, "proxy", first.as_bytes(), second, "", rest),
         RowForm::Words => ends_so(alloc, first, &[], second, "", rest),
         RowForm::Whole => {
             let (status, lines) = parts(rest);

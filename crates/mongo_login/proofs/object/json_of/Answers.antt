@@ -1,0 +1,9 @@
+use Rattle.mongo_login.proofs.Json.{json_of-read, json_of-refused}
+use Rattle.mongo_login.proofs.object.json_of.Goals as goal
+
+pub returns-in-Ok : goal.returns-in-Ok
+returns-in-Ok c = json_of-read _ _ c.in-Ok.ensures.ok.0 c.in-Ok.ensures.ok.1
+
+pub returns-in_default : goal.returns-in_default
+returns-in_default c =
+    json_of-refused _ (c.in-Err.ensures.err (λ memory. c.in_default.not-Memory (c.classify.ensures.memory.1 memory)))
