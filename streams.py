@@ -18,11 +18,11 @@ from tracing import Trace
 TOP = os.path.dirname(os.path.realpath(__file__))
 
 
-def built(name):
-    """The path of a proved program, which is proved and built first where it isn't current. Ends with 70 where it can't be."""
-    if subprocess.run([os.path.join(TOP, 'build'), name], stdout=2, env=children.environment()).returncode:
+def built(name, unproved=False):
+    """The path of a program, which is proved and built first where it isn't current, or just built. Ends with 70 where it can't be."""
+    if subprocess.run([os.path.join(TOP, 'build'), *(['--unproved'] if unproved else []), name], stdout=2, env=children.environment()).returncode:
         sys.exit(70)
-    return os.path.join(TOP, 'crates', name, 'out', name)
+    return os.path.join(TOP, 'crates', name, 'out', name + ('.unproved' if unproved else ''))
 
 
 def whole_number(least, most):
