@@ -44,7 +44,7 @@ ALERTS = {
 
 
 def guess(raw):
-    """What bytes that are no frame may be."""
+    """What bytes that are no frame may be; None where they begin as nothing that is known here."""
     if raw[:2] == b'\x15\x03':
         return f'a TLS alert, {ALERTS.get(raw[6], raw[6])}' if len(raw) >= 7 else 'a TLS alert'
     for beginning, told in BEGINNINGS:
@@ -53,6 +53,11 @@ def guess(raw):
     # A greeting of MySQL and MariaDB: its length in three bytes, a zero, and the version 10 of its protocol.
     if raw[3:5] == b'\0\x0a':
         return 'it greets as MySQL does'
+    return None
+
+
+def fault(raw):
+    """What keeps bytes from being a frame."""
     if len(raw) < decoding.HEADER:
         return 'it is shorter than a header'
     length, _, _, code = struct.unpack_from('<iiii', raw)
@@ -73,13 +78,14 @@ class Trace:
 
     def __init__(self, say, asks, masked):
         self.say, self.asks, self.masked = say, asks, masked
-        self.asked, self.before = None, time.monotonic()
+        self.asked, self.before, self.begun = None, time.monotonic(), set()
 
     def frame(self, arrow, front, length):
         """Says a whole frame, of which the front is given."""
         if not is_frame(front):
             self.rest(arrow, front, length)
             return
+        self.begun.add(arrow)
         command, lines = decoding.shown(front, length, self.masked)
         _, request, response, code = struct.unpack_from('<iiii', front)
         if arrow == self.asks:
@@ -100,11 +106,11 @@ class Trace:
             _, lines = decoding.shown(front, length, self.masked)
             self.tell(f'{arrow} a frame that is cut ({came} of its {length} bytes', lines)
             return
-        if self.masked and masking.hides_frame(None, front):
-            lines = [f'hidden, {came} bytes']
-        else:
-            lines = decoding.dump(front, came)
-        self.tell(f'{arrow} no frame: {guess(front)} ({came} bytes', lines)
+        known = guess(front)
+        # What follows frames and is nothing that is known may be the rest of one, with what logs in.
+        hidden = masking.hides_frame(None, front) or (known is None and arrow in self.begun)
+        lines = [f'hidden, {came} bytes'] if self.masked and hidden else decoding.dump(front, came)
+        self.tell(f'{arrow} no frame: {known or fault(front)} ({came} bytes', lines)
 
     def tell(self, head, lines):
         now = time.monotonic()

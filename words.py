@@ -62,6 +62,14 @@ def answer(name, text, given):
     sys.exit(0)
 
 
+class Version(argparse.Action):
+    """The word --version of a parser: as --help, it ends the script wherever it stands."""
+
+    def __call__(self, parser, *_):
+        parser.report(version(parser.prog) + '\n')
+        sys.exit(0)
+
+
 class Parser(argparse.ArgumentParser):
     """Words with values. `say` takes a line without the script's name, `report` what was asked for."""
 
@@ -69,7 +77,7 @@ class Parser(argparse.ArgumentParser):
         super().__init__(prog=name, description=text, formatter_class=argparse.RawDescriptionHelpFormatter, usage=argparse.SUPPRESS)
         self.say = say or (lambda why: print(f'{name}: {why}', file=sys.stderr))
         self.report = report or (lambda told: print(told, end=''))
-        self.add_argument('--version', action='store_true', help='print the commit and the kit')
+        self.add_argument('--version', action=Version, nargs=0, help='print the commit and the kit')
 
     def error(self, message):
         self.say(f'{message}; --help')
@@ -80,9 +88,6 @@ class Parser(argparse.ArgumentParser):
 
     def parse_args(self, args=None, namespace=None):
         given = sys.argv[1:] if args is None else args
-        if given == ['--version']:
-            self.report(version(self.prog) + '\n')
-            sys.exit(0)
         left = [word for word in given if word.startswith('--') and not self.takes(word)]
         if not left:
             asked, left = self.parse_known_args(given, namespace)
