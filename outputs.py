@@ -63,7 +63,7 @@ class Lines:
         line = encoded(text + '\n', sys.stderr)
         with self.changed:
             if self.waiting and self.size + len(line) > HELD:
-                self.left_out += 1
+                self.left_out += 1 + text.count('\n')
                 return
             self.tell_left_out()
             self.push(line)

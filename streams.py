@@ -12,16 +12,17 @@ import time
 import typing
 
 import children
-from decoding import CUT, shown
+from decoding import CUT
+from tracing import Trace
 
 TOP = os.path.dirname(os.path.realpath(__file__))
 
 
-def built(name):
-    """The path of a proved program, which is proved and built first where it isn't current. Ends with 70 where it can't be."""
-    if subprocess.run([os.path.join(TOP, 'build'), name], stdout=2, env=children.environment()).returncode:
+def built(name, unproved=False):
+    """The path of a program, which is proved and built first where it isn't current, or just built. Ends with 70 where it can't be."""
+    if subprocess.run([os.path.join(TOP, 'build'), *(['--unproved'] if unproved else []), name], stdout=2, env=children.environment()).returncode:
         sys.exit(70)
-    return os.path.join(TOP, 'crates', name, 'out', name)
+    return os.path.join(TOP, 'crates', name, 'out', name + ('.unproved' if unproved else ''))
 
 
 def whole_number(least, most):
@@ -55,8 +56,8 @@ class Frames:
     def take(self, piece):
         """The front and the length of each frame that came whole with this piece. After a length below that of a header none is found."""
         at = 0
-        while at < len(piece) and self.length >= 16:
-            step = piece[at:at + self.length - self.came]
+        while at < len(piece):
+            step = piece[at:at + self.length - self.came] if self.length >= 16 else piece[at:]
             self.front += step[:max(0, self.keep - len(self.front))]
             self.came += len(step)
             at += len(step)
@@ -204,10 +205,11 @@ def relay(program, first_line, sock, peer_begins, limits, trace, masked=True, wa
             else:
                 clock.sent(front)
                 asked[:] = [number_at(front, 4)]
-            if trace:
-                trace(f'{arrow} {shown(front, length, masked)}')
+            if told:
+                told.frame(arrow, front, length)
     asked = []
     keep = CUT if trace else LOOKED_AT
+    told = Trace(trace, '<-' if peer_begins else '->', masked) if trace else None
     out, back, clock = Frames(keep), Frames(keep), Clock(limits, peer_begins)
     with children.start([program], stdin=subprocess.PIPE, stdout=subprocess.PIPE, stderr=subprocess.PIPE, bufsize=0) as running, selectors.DefaultSelector() as ready:
         said, open_streams, sending = bytearray(), 2, True
@@ -252,6 +254,9 @@ def relay(program, first_line, sock, peer_begins, limits, trace, masked=True, wa
             return running.wait(), said.decode('utf-8', 'replace')
         finally:
             children.forget(running)
+            if told:
+                told.rest('->', bytes(out.front), out.came)
+                told.rest('<-', bytes(back.front), back.came)
 
 
 def from_socket(sock):

@@ -9,6 +9,8 @@ import sys
 HERE = os.path.dirname(os.path.abspath(__file__))
 sys.path.insert(0, os.path.dirname(HERE))
 from streams import built, whole_number
+import words
+from words import Parser
 
 # How often something may be asked for; the program takes no number of 2^32, and a run of many is one more.
 TIMES = whole_number(1, 1_000_000_000)
