@@ -24,10 +24,10 @@ one_login a b held p q = let same : Some a ≡ Some b = sym p ∙ q in cc
 one_message : (given : Option (Bor (List ℕ))) (message : Bor (List ℕ)) (text : List ℕ) → given ≡ Some message → option_copied given ≡ Some text → message.now ≡ text
 one_message given message text is said = let same : Some message.now ≡ Some text = sym (ap option_copied is) ∙ said in cc
 
--- a message that was refused, and not by want of memory, isn't owed
-pub unowed : (core : ServerCore) (message : List ℕ) (fault : ServerFault) → ClientFinalRow core message fault ⊎ (fault ≡ OutOfMemory) → (fault ≡ OutOfMemory → ⊥) → IsValidClientFinal core message → ⊥
-unowed core message fault (inl row) not_memory owed = final_no_row core message owed fault row
-unowed core message fault (inr memory) not_memory owed = not_memory memory
+-- a message that was refused, and not by want of memory, isn't valid
+pub not_valid : (core : ServerCore) (message : List ℕ) (fault : ServerFault) → ClientFinalRow core message fault ⊎ (fault ≡ OutOfMemory) → (fault ≡ OutOfMemory → ⊥) → IsValidClientFinal core message → ⊥
+not_valid core message fault (inl row) not_memory valid = final_no_row core message valid fault row
+not_valid core message fault (inr memory) not_memory valid = not_memory memory
 
 module _ (old : Session) (next : ContinueRequest) (login : PendingLogin) (message : Bor (List ℕ)) (rest : Option PendingLogin) (held : old.login ≡ Some login) (given : next.payload ≡ Some message) (of_conversation : next.is_of_conversation ≡ true) (taken : rest ≡ None)
   where
@@ -39,10 +39,10 @@ module _ (old : Session) (next : ContinueRequest) (login : PendingLogin) (messag
 
     -- where its key isn't proved
     last : login.is_proved ≡ false → (new : Session) (answer : Option SaslReply) → AnswersLast (record { user = old.user; login = rest }) login message.now new answer → AnswersContinue old next new answer
-    last unproved new (Some answer) h = inl (record { login = login; message = message.now; closes = record { goes_on = goes_on; unproved = unproved; owed = h.owed }; answer_is = h.answer_is; authentic = h.authentic; done_is = h.done_is; new_is = h.new_is })
+    last unproved new (Some answer) h = inl (record { login = login; message = message.now; closes = record { goes_on = goes_on; unproved = unproved; valid = h.valid }; answer_is = h.answer_is; authentic = h.authentic; done_is = h.done_is; new_is = h.new_is })
     last unproved new None h = (
       λ (other : PendingLogin) (text : List ℕ) closes.
-          h.0 (subst (IsValidClientFinal login.core) (sym (one_message next.payload message text given closes.goes_on.said)) (subst (λ (l : PendingLogin). IsValidClientFinal l.core text) (one_login other login old.login closes.goes_on.held held) closes.owed)),
+          h.0 (subst (IsValidClientFinal login.core) (sym (one_message next.payload message text given closes.goes_on.said)) (subst (λ (l : PendingLogin). IsValidClientFinal l.core text) (one_login other login old.login closes.goes_on.held held) closes.valid)),
       λ (x : Authentication) (other : PendingLogin) closes.
           h.1 x (subst (λ (l : PendingLogin). HasBegun l.core x) (one_login other login old.login closes.goes_on.held held) closes.begun) (one_message next.payload message (close_of x) given closes.goes_on.said),
       λ (other : PendingLogin) ends. differ (ap (λ (l : PendingLogin). l.is_proved) (one_login other login old.login ends.goes_on.held held) ∙ unproved) ends.proved,

@@ -7,9 +7,9 @@ use Rattle.mongo_session.specs.declared.session.PendingLogin.{PendingLogin}
 use Rattle.mongo_session.specs.declared.session.Session.{Session}
 use Rattle.mongo_session.specs.Sasl.{session_of_login, after_proof}
 
--- it is the client's last that the login's server is owed, and the answer the one that it owes
+-- it is the client's last, with the proof that the login's server waits for, and the answer is the message that this server owes
 pub record TakesLast (old : Session) (login : PendingLogin) (message : List ℕ) (new : Session) (answer : SaslReply) : Type 0 where
-  pub owed : IsValidClientFinal login.core message
+  pub valid : IsValidClientFinal login.core message
   pub answer_is : IsOwed login.core answer.payload
   pub authentic : (x : Authentication) → HasBegun login.core x → (message ≡ close_of x) × (answer.payload ≡ server_final_of x)
   pub done_is : answer.is_done ≡ login.skips_empty_exchange

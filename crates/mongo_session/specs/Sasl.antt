@@ -46,11 +46,11 @@ pub record GoesOn (old : Session) (next : ContinueRequest) (login : PendingLogin
   pub held : old.login ≡ Some login
   pub said : option_copied next.payload ≡ Some message
 
--- the message is the client's last that the login's server is owed
+-- the message is a client's last one, with the proof that the login's server waits for
 pub record Closes (old : Session) (next : ContinueRequest) (login : PendingLogin) (message : List ℕ) : Type 0 where
   pub goes_on : GoesOn old next login message
   pub unproved : login.is_proved ≡ false
-  pub owed : IsValidClientFinal login.core message
+  pub valid : IsValidClientFinal login.core message
 
 -- the message is the client's last of the authentication, which the login has begun
 pub record ClosesAuthentication (old : Session) (next : ContinueRequest) (x : Authentication) (login : PendingLogin) : Type 0 where
@@ -71,8 +71,8 @@ session_of_login login = record { user = Some login.name; login = None }
 abbrev pub after_proof : Session → PendingLogin → Session
 after_proof old login = if login.skips_empty_exchange then session_of_login login else record old { login = Some (record login { is_proved = true }) }
 
--- The key is proved: the login's server was owed this message, and owes the answer. So of every authentication that the login has begun
--- they are the client's last message and the server's.
+-- The key is proved, and the answer is the message that the login's server owes. Of every authentication that the login has begun they are
+-- the client's last message and the server's.
 pub record ProvesKey (old : Session) (next : ContinueRequest) (new : Session) (answer : SaslReply) : Type 0 where
   pub login : PendingLogin
   pub message : List ℕ

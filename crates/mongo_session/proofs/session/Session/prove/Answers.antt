@@ -1,7 +1,7 @@
 use Rattle.std.proofs.Common.{refl, sym, subst}
 use Rattle.mongo_server.specs.Server.{HasBegun}
 use Rattle.mongo_session.specs.Requests.{SaysSaslContinue}
-use Rattle.mongo_session.proofs.Continued.{unowed}
+use Rattle.mongo_session.proofs.Continued.{not_valid}
 use Rattle.mongo_session.proofs.Remembered.{logged_in_now, remembers_alone, user_later, started_later, proved_now}
 use Rattle.mongo_session.proofs.session.Session.prove.Goals as goal
 
@@ -31,7 +31,7 @@ returns-in-OutOfMemory-clause-remembers c = λ settings requests document user l
 pub returns : goal.returns
 returns c = record {
   remembers = λ settings requests document user login closes. remembers_alone settings requests document c.args.self.now c.requires user;
-  answered = (unowed c.args.login.core c.args.payload.now c.in-Err.fault c.in-Err.ensures.refused c.in_default.not-OutOfMemory, λ x begun said. c.in_default.not-OutOfMemory (c.in-Err.ensures.accepts x begun said), refl);
+  answered = (not_valid c.args.login.core c.args.payload.now c.in-Err.fault c.in-Err.ensures.refused c.in_default.not-OutOfMemory, λ x begun said. c.in_default.not-OutOfMemory (c.in-Err.ensures.accepts x begun said), refl);
   kept = tt;
   refused = tt;
 }
