@@ -3,13 +3,12 @@
 //!
 //! 1. [`UserLogin`] is who logs in, and by which nonce. [`UserLogin::generated`] is the login of a number, and [`generated_server`]
 //!    the server that knows its user.
-//! 2. [`Client::log_in`] hands the server's two messages to the client, as the replies of a link in memory, and the
-//!    client's last message, as it was written to that link, back to the server.
+//! 2. [`Client::log_in`] lets the client log in to the server, over a link in memory.
 //! 3. [`generate`] makes so many logins one after another, with one cache of salted passwords, and answers how many both
 //!    sides accepted, the rounds of Hi that were derived, and one digest of all last messages.
 //!
-//! Proved: where a login and a server are of one authentication, both sides accept, or memory runs out; `generate` answers the
-//! numbers and the digest that `specs/Generated.antt` gives. Want of memory is the only refusal of each call.
+//! Proved: where a login and a server are of one possible authentication, both sides accept, or memory runs out; `generate` answers
+//! the numbers and the digest that `specs/Generated.antt` gives. Want of memory is the only refusal of each call.
 #![tactic(auto)]
 
 mod acceptance;

@@ -1,5 +1,6 @@
 //! One login: a client against a server.
-ghost use Rattle.std.specs.Prelude.{◌≡◌, None, Some, IfSome, IfOk, OnOk, MatchOption};
+ghost use Rattle.std.specs.Prelude.{◌≡◌, None, Some, codes, IfSome, IfOk, OnOk, MatchOption};
+ghost use Rattle.mongo_command.specs.declared.server_address.ServerAddress.TheVariants.{Tcp};
 ghost use Rattle.mongo_wire.specs.declared.error.ErrorKind.TheVariants.{OutOfMemory};
 ghost use Rattle.mongo_establish.specs.declared.generation.PoolGeneration.TheVariants.{Normal};
 ghost use Rattle.mongo_server.specs.Authentication.{Authentication, close_of};
@@ -32,13 +33,11 @@ impl Client {
     ghost use Rattle.mongo_generate.specs.Replies.{AreServerReplies};
     ghost use Rattle.mongo_generate.specs.Written.{CarriesPayloadLast, CarriesAnyLast};
 
-    /// Establishes a connection over a link in memory whose replies carry the server's messages: hello with the login that
-    /// goes with it, and the last exchange. The client's last message, as it was written, is then the server's to judge. None
-    /// where either side refuses, or where a message of the server doesn't fit into a reply of 48000000 bytes. The ids of the
-    /// commands begin at 0.
+    /// Lets the client log in to the server, over a link in memory. Where both are of one authentication that is possible (`IsPossible` of
+    /// `specs/Login.antt`), both accept, and the answer is their last messages; None comes only elsewhere. Of any answer the server has
+    /// taken the client's message, and owes the other one.
     ///
-    /// A server of the login's authentication, and its client, accept: the answer is their last messages. A login that is refused leaves
-    /// the cache its entries, and adds one at most.
+    /// However it ends, the cache keeps its entries, and one key's is added at most.
     pub fn log_in<G: Ledger>(
         &self,
         alloc: Global,
@@ -47,7 +46,7 @@ impl Client {
         state: &mut LoginState,
         steps: &mut Steps<G>,
     ) -> Result<Option<Acceptance>, AllocError>
-        // Where both are of one authentication, both accept.
+        // Where both are of one possible authentication, both accept.
         ensures accepted { (x : Authentication) → IsAuthenticationClient x login.now → Serves server.old x → IfOk result (λ met. met ≡ Some (acceptance_of x)) }
         // Its key is derived where it has no entry, and has one then.
         ensures takes { (x : Authentication) → IsAuthenticationClient x login.now → Serves server.old x → OnOk result (StoresKey (key_of x) (ledgers steps.old state.old.salted) (ledgers steps.new state.new.salted)) }
@@ -164,8 +163,7 @@ fn has_logged_in(ended: &Result<PooledConnection, EstablishError>) -> Result<boo
     }
 }
 
-// The replies of a server that heard the client's first message. None where it refuses that, or where a message of its own
-// doesn't fit into a reply.
+// The replies of a server that heard the client's first message. A server of the login's authentication gives them.
 fn heard(
     alloc: Global,
     login: &UserLogin,
@@ -214,6 +212,7 @@ fn none_for(kind: &ErrorKind) -> Result<Option<Bytes>, AllocError>
 
 // A connection to `localhost`.
 fn pending(alloc: Global) -> Result<PendingConnection, AllocError>
+    ensures address { IfOk result (λ pending. pending.address ≡ Tcp (codes "localhost") None) }
     ensures generation { IfOk result (λ pending. pending.generation ≡ Normal 0) }
 {
     let host = match Text::from_slice(alloc, "localhost") {

@@ -19,7 +19,7 @@ pub struct Client {
 }
 
 impl Client {
-    /// The client. Its hello is built once, for all of its logins.
+    /// The client.
     pub fn new(alloc: Global) -> Result<Client, AllocError> {
         match establisher(alloc) {
             Ok(establisher) => Ok(Client { establisher }),

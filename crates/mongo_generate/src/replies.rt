@@ -19,9 +19,9 @@ use mongo_wire::{Error, MemoryLink, Message, MessageFlags, RequestIds, Sequences
 use std::alloc::Global;
 
 /// The frames of the reply to a hello with this first message, and of the reply to the command after it with this last
-/// one.
+/// one, of 48000000 bytes at most each.
 ///
-/// `TooLong` where a message is too long for its reply, whose frame has 48000000 bytes at most.
+/// Of messages that are shorter than 16 MiB, want of memory is the one refusal; longer ones may be too long for their replies.
 pub fn replies_of(alloc: Global, server_first: &[u8], server_final: &[u8]) -> Result<Bytes, Error>
     ensures replies { IfOk result (AreReplies server_first.now server_final.now) }
     // Messages that are shorter than 16 MiB fit.

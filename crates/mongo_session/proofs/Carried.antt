@@ -1,11 +1,10 @@
-use Rattle.std.proofs.Common.{ℕ, Bool, true, false, Option, None, Some, IfSome, List, inl, inr}
-use Rattle.mongo_session.specs.declared.request.StartRequest.{StartRequest}
+use Rattle.std.proofs.Common.{◌≡◌, ℕ, Bool, true, false, Option, None, Some, List, option_copied, subst, inl, inr}
 use Rattle.std.specs.Borrow.{Bor}
-use Rattle.mongo_command.specs.Keys.{speculative_authenticate_key}
+use Rattle.mongo_scram.specs.declared.scram_version.ScramVersion.{ScramVersion}
+use Rattle.mongo_session.specs.declared.request.StartRequest.{StartRequest}
 use Rattle.mongo_session.specs.declared.request.ContinueRequest.{ContinueRequest}
-use Rattle.mongo_session.specs.Requests.{HasPayload, IsCommandNamed, IsHello, IsHelloBy, SaysStart, SaysContinue, CarriesStart, StartsLogin, SaysSaslContinue}
-use Rattle.mongo_session.specs.Values.{HasInside, HoldsIfAny}
-use Rattle.mongo_sasl.specs.Keys.{sasl_continue_key, sasl_start_key}
+use Rattle.mongo_session.specs.Requests.{BringsStart, HasPayload, IsHello, IsHelloBy, IsStart, SaysStart, SaysContinue, SaysVersion, StartsLogin, SaysSaslContinue}
+use Rattle.mongo_session.specs.Values.{HoldsIfAny}
 
 -- What a request begins, or goes on with.
 
@@ -14,24 +13,27 @@ pub hello_carried : (document : List ℕ) (is_legacy : Bool) → IsHelloBy docum
 hello_carried document false named = inl named
 hello_carried document true named = inr named
 
-hello_with : (document inner : List ℕ) (payload : Option (Bor (List ℕ))) → IsHello document → HasInside document speculative_authenticate_key inner → IsCommandNamed inner sasl_start_key
-    → HoldsIfAny (HasPayload inner) payload → IfSome payload (λ p. StartsLogin document p.now)
-hello_with document inner None is_hello inside named message = tt
-hello_with document inner (Some p) is_hello inside named message = inr (record { is_hello = is_hello; inner = inner; inside = inside; start = record { named = named; message = message } })
+-- what an option holds
+held_payload : (document : List ℕ) (given : Option (Bor (List ℕ))) (payload : List ℕ) → option_copied given ≡ Some payload → HoldsIfAny (HasPayload document) given → HasPayload document payload
+held_payload document None payload is h = let never : None ≡ Some payload = is in absurd (cc never)
+held_payload document (Some m) payload is h = let same : Some m.now ≡ Some payload = is in let one : m.now ≡ payload = cc in subst (HasPayload document) one h
 
-pub hello_starts : (document : List ℕ) (start : StartRequest) → IsHello document → CarriesStart document start → IfSome start.payload (λ p. StartsLogin document p.now)
-hello_starts document start is_hello carries = hello_with document carries.inner start.payload is_hello carries.inside carries.says.named carries.says.message
+starts_with : (document : List ℕ) (start : StartRequest) → SaysStart document start → (version : ScramVersion) (payload : List ℕ) → start.version ≡ Some version → option_copied start.payload ≡ Some payload → IsStart document version payload
+starts_with document start says version payload version_is said = record {
+  named = says.named;
+  mechanism = subst (SaysVersion document) version_is says.version;
+  message = held_payload document start.payload payload said says.message;
+}
 
-starts_with : (document : List ℕ) (payload : Option (Bor (List ℕ))) → IsCommandNamed document sasl_start_key → HoldsIfAny (HasPayload document) payload → IfSome payload (λ p. StartsLogin document p.now)
-starts_with document None named message = tt
-starts_with document (Some p) named message = inl (record { named = named; message = message })
+pub brings_login : (document : List ℕ) (start : StartRequest) → BringsStart document start → (version : ScramVersion) (payload : List ℕ) → start.version ≡ Some version → option_copied start.payload ≡ Some payload → StartsLogin document version payload
+brings_login document start (inl says) version payload version_is said = inl (starts_with document start says version payload version_is said)
+brings_login document start (inr carried) version payload version_is said =
+    inr (record { is_hello = carried.0; inner = carried.1.inner; inside = carried.1.inside; start = starts_with carried.1.inner start carried.1.says version payload version_is said })
 
-pub start_carries : (document : List ℕ) (start : StartRequest) → SaysStart document start → IfSome start.payload (λ p. StartsLogin document p.now)
-start_carries document start says = starts_with document start.payload says.named says.message
-
-goes_on_with : (document : List ℕ) (payload : Option (Bor (List ℕ))) → IsCommandNamed document sasl_continue_key → HoldsIfAny (HasPayload document) payload → IfSome payload (λ p. SaysSaslContinue document p.now)
-goes_on_with document None named message = tt
-goes_on_with document (Some p) named message = record { named = named; message = message }
-
-pub next_continues : (document : List ℕ) (next : ContinueRequest) → SaysContinue document next → IfSome next.payload (λ p. SaysSaslContinue document p.now)
-next_continues document next says = goes_on_with document next.payload says.named says.message
+-- of the conversation
+pub goes_on_with : (document : List ℕ) (next : ContinueRequest) (message : Bor (List ℕ)) → SaysContinue document next → next.payload ≡ Some message → next.is_of_conversation ≡ true → SaysSaslContinue document message.now
+goes_on_with document next message says given of_conversation = record {
+  named = says.named;
+  conversation = says.conversation.0 of_conversation;
+  message = subst (HoldsIfAny (HasPayload document)) given says.message;
+}

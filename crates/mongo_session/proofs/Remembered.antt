@@ -1,15 +1,15 @@
 -- What a session remembers, as requests come.
-use Rattle.std.proofs.Common.{◌≡◌, ℕ, Bool, true, false, Option, None, Some, IfSome, List, [], ◌∷◌, ◌++◌, option_copied, refl, sym, ap, ◌∙◌, subst, append_assoc}
-use Rattle.std.specs.Borrow.{Bor}
+use Rattle.std.proofs.Common.{◌≡◌, ℕ, Bool, true, false, Option, None, Some, IfSome, List, [], ◌∷◌, ◌++◌, refl, sym, ap, ◌∙◌, subst, append_assoc}
 use Rattle.mongo_server.specs.Authentication.{Authentication, open_of, close_of}
 use Rattle.mongo_session.specs.declared.start.StartedLogin.{StartedLogin}
 use Rattle.mongo_session.specs.declared.request.StartRequest.{StartRequest}
 use Rattle.mongo_session.specs.declared.session.PendingLogin.{PendingLogin}
 use Rattle.mongo_session.specs.declared.session.Session.{Session}
 use Rattle.mongo_session.specs.declared.serve_settings.ServeSettings.{ServeSettings}
-use Rattle.mongo_session.specs.Requests.{StartsLogin, SaysSaslContinue}
+use Rattle.mongo_session.specs.Requests.{BringsStart, StartsLogin, SaysSaslContinue}
 use Rattle.mongo_session.specs.Login.{HasStarted, HasProved, HasLoggedIn, IsPendingLogin, Remembers}
 use Rattle.mongo_session.specs.Started.{StartsBy}
+use Rattle.mongo_session.proofs.Carried.{brings_login}
 
 -- ---- one request more
 
@@ -22,7 +22,7 @@ started_later x requests d h = record {
   opens = h.opens;
 }
 
-pub started_now : (x : Authentication) (requests : List (List ℕ)) (d : List ℕ) → StartsLogin d (open_of x) → HasStarted x (requests ++ d ∷ [])
+pub started_now : (x : Authentication) (requests : List (List ℕ)) (d : List ℕ) → StartsLogin d x.version (open_of x) → HasStarted x (requests ++ d ∷ [])
 started_now x requests d h = record { before = requests; request = d; after = []; split = refl; opens = h }
 
 pub proved_later : (x : Authentication) (requests : List (List ℕ)) (d : List ℕ) → HasProved x requests → HasProved x (requests ++ d ∷ [])
@@ -68,19 +68,14 @@ remembers_alone settings requests d session none h = record { user = user_later 
 
 -- ---- a login that begins
 
--- the text that an option holds
-said_is : (P : List ℕ → Type 0) (message : Option (Bor (List ℕ))) (text : List ℕ) → option_copied message ≡ Some text → IfSome message (λ m. P m.now) → P text
-said_is P None text is h = let never : None ≡ Some text = is in absurd (cc never)
-said_is P (Some m) text is h = let same : Some m.now ≡ Some text = is in let one : m.now ≡ text = cc in subst P one h
-
-pub starts_with_start : (settings : ServeSettings) (requests : List (List ℕ)) (d : List ℕ) (start : StartRequest) (opened : StartedLogin) → StartsBy settings start (Some opened) → IfSome start.payload (λ p. StartsLogin d p.now)
+pub starts_with_start : (settings : ServeSettings) (requests : List (List ℕ)) (d : List ℕ) (start : StartRequest) (opened : StartedLogin) → StartsBy settings start (Some opened) → BringsStart d start
     → IsPendingLogin settings (requests ++ d ∷ []) opened.login
-starts_with_start settings requests d start opened (x, asked, begins) said = record {
+starts_with_start settings requests d start opened (x, asked, begins) brings = record {
   x = x;
   of_settings = asked.of_settings;
   name_is = begins.begun.name_is;
   begun = begins.begun.begun;
-  opened = started_now x requests d (said_is (StartsLogin d) start.payload (open_of x) asked.said said);
+  opened = started_now x requests d (brings_login d start brings x.version (open_of x) asked.version_is asked.said);
   proved = λ is. absurd (differ begins.begun.unproved is);
 }
   where

@@ -26,15 +26,15 @@ pub record IsAuthentication (settings : ServeSettings) (x : Authentication) : Ty
 
 -- ---- the requests, each a document
 
--- one of them begins the login of the authentication: its message is the client's first
+-- one of them begins the login of the authentication: it names the mechanism, and its message is the client's first
 pub record HasStarted (x : Authentication) (requests : List (List ℕ)) : Type 0 where
   pub before : List (List ℕ)
   pub request : List ℕ
   pub after : List (List ℕ)
   pub split : requests ≡ before ++ (request ∷ after)
-  pub opens : StartsLogin request (open_of x)
+  pub opens : StartsLogin request x.version (open_of x)
 
--- and a later one proves the key: its message is the client's last, byte for byte
+-- and a later one proves the key: it goes on with the conversation, and its message is the client's last, byte for byte
 pub record HasProved (x : Authentication) (requests : List (List ℕ)) : Type 0 where
   pub before : List (List ℕ)
   pub request : List ℕ

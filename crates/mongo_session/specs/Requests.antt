@@ -31,9 +31,15 @@ pub record HasPayload (document payload : List ℕ) : Type 0 where
   pub binary : element.kind ≡ 0x05
   pub payload_is : payload ≡ drop 5 element.value
 
--- a `saslStart` with this message
-pub record IsStart (document payload : List ℕ) : Type 0 where
+-- the version of SCRAM that `mechanism` names; none where it names none that is spoken here
+abbrev pub SaysVersion : List ℕ → Option ScramVersion → Type 0
+SaysVersion document None = (name : List ℕ) → HasText document mechanism_key name → version_named name ≡ None
+SaysVersion document (Some version) = (name : List ℕ) × HasText document mechanism_key name × (version_named name ≡ Some version)
+
+-- a `saslStart` by this version of SCRAM, with this message
+pub record IsStart (document : List ℕ) (version : ScramVersion) (payload : List ℕ) : Type 0 where
   pub named : IsCommandNamed document sasl_start_key
+  pub mechanism : SaysVersion document (Some version)
   pub message : HasPayload document payload
 
 -- hello, by its name or by a legacy one
@@ -44,28 +50,24 @@ IsHelloBy document true = IsCommandNamed document legacy_hello_command_name ⊎ 
 abbrev pub IsHello : List ℕ → Type 0
 IsHello document = IsHelloBy document false ⊎ IsHelloBy document true
 
--- a hello that carries a `saslStart` with this message
-pub record IsSpeculativeStart (document payload : List ℕ) : Type 0 where
+-- a hello that carries a `saslStart` by this version, with this message
+pub record IsSpeculativeStart (document : List ℕ) (version : ScramVersion) (payload : List ℕ) : Type 0 where
   pub is_hello : IsHello document
   pub inner : List ℕ
   pub inside : HasInside document speculative_authenticate_key inner
-  pub start : IsStart inner payload
+  pub start : IsStart inner version payload
 
--- a login begins with this message
-abbrev pub StartsLogin : List ℕ → List ℕ → Type 0
-StartsLogin document payload = IsStart document payload ⊎ IsSpeculativeStart document payload
+-- a login by this version begins with this message
+abbrev pub StartsLogin : List ℕ → ScramVersion → List ℕ → Type 0
+StartsLogin document version payload = IsStart document version payload ⊎ IsSpeculativeStart document version payload
 
--- a `saslContinue` with this message
+-- a `saslContinue` of this server's conversation, with this message
 pub record SaysSaslContinue (document payload : List ℕ) : Type 0 where
   pub named : IsCommandNamed document sasl_continue_key
+  pub conversation : HasInt32 document conversation_id_key conversation_id
   pub message : HasPayload document payload
 
 -- ---- what a request is to its document
-
--- the version of SCRAM that `mechanism` names; none where it names none that is spoken here
-abbrev pub SaysVersion : List ℕ → Option ScramVersion → Type 0
-SaysVersion document None = (name : List ℕ) → HasText document mechanism_key name → version_named name ≡ None
-SaysVersion document (Some version) = (name : List ℕ) × HasText document mechanism_key name × (version_named name ≡ Some version)
 
 -- `options` asks for no empty exchange at the end
 abbrev pub SkipsEmptyExchange : List ℕ → Type 0
@@ -83,6 +85,10 @@ pub record CarriesStart (document : List ℕ) (start : StartRequest) : Type 0 wh
   pub inner : List ℕ
   pub inside : HasInside document speculative_authenticate_key inner
   pub says : SaysStart inner start
+
+-- a `saslStart`, alone or within a hello
+abbrev pub BringsStart : List ℕ → StartRequest → Type 0
+BringsStart document start = SaysStart document start ⊎ (IsHello document × CarriesStart document start)
 
 -- the login that a hello carries; none where what it carries is no `saslStart`
 abbrev pub CarriesLogin : List ℕ → Option StartRequest → Type 0

@@ -2,7 +2,7 @@
 -- refused.
 use Rattle.std.specs.Prelude.{◌≡◌, ℕ, ◌⊎◌, Bool, true, false, Option, None, Some, List, [], if◌then◌else◌, IsSomeAnd, option_copied}
 use Rattle.mongo_server.specs.Authentication.{Authentication, open_of, first_of, close_of, server_final_of}
-use Rattle.mongo_server.specs.Server.{HasBegun}
+use Rattle.mongo_server.specs.Server.{HasBegun, IsOwed, IsValidClientFinal}
 use Rattle.mongo_session.specs.declared.reply.SaslReply.{SaslReply}
 use Rattle.mongo_session.specs.declared.request.ContinueRequest.{ContinueRequest}
 use Rattle.mongo_session.specs.declared.request.StartRequest.{StartRequest}
@@ -46,8 +46,14 @@ pub record GoesOn (old : Session) (next : ContinueRequest) (login : PendingLogin
   pub held : old.login ≡ Some login
   pub said : option_copied next.payload ≡ Some message
 
+-- the message is a client's last one, with the proof that the login's server waits for
+pub record Closes (old : Session) (next : ContinueRequest) (login : PendingLogin) (message : List ℕ) : Type 0 where
+  pub goes_on : GoesOn old next login message
+  pub unproved : login.is_proved ≡ false
+  pub valid : IsValidClientFinal login.core message
+
 -- the message is the client's last of the authentication, which the login has begun
-pub record Closes (old : Session) (next : ContinueRequest) (x : Authentication) (login : PendingLogin) : Type 0 where
+pub record ClosesAuthentication (old : Session) (next : ContinueRequest) (x : Authentication) (login : PendingLogin) : Type 0 where
   pub goes_on : GoesOn old next login (close_of x)
   pub begun : HasBegun login.core x
   pub unproved : login.is_proved ≡ false
@@ -65,13 +71,14 @@ session_of_login login = record { user = Some login.name; login = None }
 abbrev pub after_proof : Session → PendingLogin → Session
 after_proof old login = if login.skips_empty_exchange then session_of_login login else record old { login = Some (record login { is_proved = true }) }
 
--- The key is proved: of every authentication that the login has begun this is the client's last message, and the answer the server's last.
+-- The key is proved, and the answer is the message that the login's server owes. Of every authentication that the login has begun they are
+-- the client's last message and the server's.
 pub record ProvesKey (old : Session) (next : ContinueRequest) (new : Session) (answer : SaslReply) : Type 0 where
   pub login : PendingLogin
   pub message : List ℕ
-  pub goes_on : GoesOn old next login message
-  pub unproved : login.is_proved ≡ false
-  pub closes : (x : Authentication) → HasBegun login.core x → (message ≡ close_of x) × (answer.payload ≡ server_final_of x)
+  pub closes : Closes old next login message
+  pub answer_is : IsOwed login.core answer.payload
+  pub authentic : (x : Authentication) → HasBegun login.core x → (message ≡ close_of x) × (answer.payload ≡ server_final_of x)
   pub done_is : answer.is_done ≡ login.skips_empty_exchange
   pub new_is : new ≡ after_proof old login
 
@@ -82,7 +89,11 @@ pub record CompletesLogin (old : Session) (next : ContinueRequest) (new : Sessio
   pub answer_is : answer ≡ record { is_done = true; payload = [] }
   pub new_is : new ≡ session_of_login login
 
--- What a `saslContinue` comes to. It is refused exactly where it neither closes an authentication nor ends a login; then no login goes on.
+-- What a `saslContinue` comes to. It is refused exactly where it neither closes nor ends a login; then no login goes on.
 abbrev pub AnswersContinue : Session → ContinueRequest → Session → Option SaslReply → Type 0
 AnswersContinue old next new (Some answer) = ProvesKey old next new answer ⊎ CompletesLogin old next new answer
-AnswersContinue old next new None = ((x : Authentication) (login : PendingLogin) → Closes old next x login → ⊥) × ((login : PendingLogin) → EndsEmpty old next login → ⊥) × (new ≡ record old { login = None })
+AnswersContinue old next new None =
+    ((login : PendingLogin) (message : List ℕ) → Closes old next login message → ⊥)
+    × ((x : Authentication) (login : PendingLogin) → ClosesAuthentication old next x login → ⊥)
+    × ((login : PendingLogin) → EndsEmpty old next login → ⊥)
+    × (new ≡ record old { login = None })

@@ -22,8 +22,8 @@
 //! its document asks for, by the first element of each key (`specs/Requests.antt`); a `saslStart` is answered exactly where it asks for
 //! an authentication of the settings, and a `saslContinue` exactly where it closes or ends the login that goes on (`specs/Sasl.antt`); only a
 //! hello and the commands of a login are answered before somebody is logged in (`specs/Answers.antt`); who is logged in has sent, among
-//! the requests so far, the messages of a login of the settings, byte for byte (`specs/Login.antt`); and the documents of the replies are
-//! those of `specs/Replies.antt`.
+//! the requests so far, the messages of a login of the settings, byte for byte, by its mechanism and in its conversation
+//! (`specs/Login.antt`); and the documents of the replies are those of `specs/Replies.antt`.
 #![tactic(auto)]
 
 mod answer;

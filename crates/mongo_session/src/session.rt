@@ -37,7 +37,7 @@ impl Session {
     ghost use Rattle.mongo_session.specs.Costs.{StartRounds, CostsAtMost, CostsRounds};
     ghost use Rattle.mongo_session.specs.Last.{AnswersLast, AnswersEmpty};
     ghost use Rattle.mongo_session.specs.Login.{HasLoggedIn, IsPendingLogin, Remembers};
-    ghost use Rattle.mongo_session.specs.Requests.{StartsLogin, SaysSaslContinue};
+    ghost use Rattle.mongo_session.specs.Requests.{BringsStart, SaysContinue, SaysSaslContinue};
     ghost use Rattle.mongo_session.specs.Sasl.{AnswersStart, AnswersContinue};
     ghost use Rattle.mongo_session.specs.declared.serve_settings.ServeSettings.{ServeSettings as SettingsValue};
     ghost use Rattle.mongo_bson.specs.declared.fault.BsonFault.TheVariants.{OutOfMemory};
@@ -63,8 +63,7 @@ impl Session {
         steps: &mut Steps<G>,
     ) -> Result<Option<SaslReply>, BsonFault>
         // Of all that the client sent, the session knows a login that this request begins, and who is logged in already.
-        ensures remembers { (requests : List (List ℕ)) (document : List ℕ) → Remembers settings.now requests self.old → IfSome start.entry.payload (λ payload. StartsLogin document payload.now) →
-            Remembers settings.now (requests ++ document ∷ []) self.new }
+        ensures remembers { (requests : List (List ℕ)) (document : List ℕ) → Remembers settings.now requests self.old → BringsStart document start.entry → Remembers settings.now (requests ++ document ∷ []) self.new }
         ensures answered { IfOk result (AnswersStart settings.now start.entry self.new) }
         ensures user { self.new.user ≡ self.old.user }
         ensures refused { IfErr result (λ fault. fault ≡ OutOfMemory) }
@@ -92,8 +91,7 @@ impl Session {
         alloc: Global,
         next: ContinueRequest<'_>,
     ) -> Result<Option<SaslReply>, BsonFault>
-        ensures remembers { (settings : SettingsValue) (requests : List (List ℕ)) (document : List ℕ) → Remembers settings requests self.old → IfSome next.entry.payload (λ payload. SaysSaslContinue document payload.now) →
-            Remembers settings (requests ++ document ∷ []) self.new }
+        ensures remembers { (settings : SettingsValue) (requests : List (List ℕ)) (document : List ℕ) → Remembers settings requests self.old → SaysContinue document next.entry → Remembers settings (requests ++ document ∷ []) self.new }
         ensures answered { IfOk result (AnswersContinue self.old next.entry self.new) }
         ensures kept { OnErr result (self.new.user ≡ self.old.user) }
         ensures refused { IfErr result (λ fault. fault ≡ OutOfMemory) }

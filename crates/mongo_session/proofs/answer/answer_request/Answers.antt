@@ -1,5 +1,4 @@
-use Rattle.std.proofs.Common.{rules}
-use Rattle.mongo_session.proofs.Carried.{start_carries, next_continues}
+use Rattle.std.proofs.Common.{inl, rules}
 use Rattle.mongo_session.proofs.Derived.{refused_after}
 use Rattle.mongo_session.proofs.Remembered.{remembers_later}
 use Rattle.mongo_session.specs.Costs.{StartRounds, CostsAtMost}
@@ -15,7 +14,7 @@ pub returns-in_ok-start-in-SaslStart-clause-remembers :
     goal.returns-in_ok-start-in-SaslStart-clause-remembers
 returns-in_ok-start-in-SaslStart-clause-remembers g c = λ requests document h says.
     let start = rw c.in-SaslStart.is at says in
-    c.start.ensures.remembers requests document h (start_carries document c.in-SaslStart.start start)
+    c.start.ensures.remembers requests document h (inl start)
 
 pub returns-in-Ping-clause-remembers : goal.returns-in-Ping-clause-remembers
 returns-in-Ping-clause-remembers g c = λ requests document h says. remembers_later c.args.settings.now requests document c.args.session.now h
@@ -39,7 +38,7 @@ pub returns-in_ok-go_on-in-SaslContinue-clause-remembers :
     goal.returns-in_ok-go_on-in-SaslContinue-clause-remembers
 returns-in_ok-go_on-in-SaslContinue-clause-remembers g c = λ requests document h says.
     let next = rw c.in-SaslContinue.is at says in
-    c.go_on.ensures.remembers c.args.settings.now requests document h (next_continues document c.in-SaslContinue.next next)
+    c.go_on.ensures.remembers c.args.settings.now requests document h next
 
 pub returns-in_ok-go_on-in-SaslContinue-clause-answered :
     goal.returns-in_ok-go_on-in-SaslContinue-clause-answered

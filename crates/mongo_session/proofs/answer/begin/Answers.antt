@@ -1,5 +1,4 @@
-use Rattle.std.proofs.Common.{Some}
-use Rattle.mongo_session.proofs.Carried.{hello_starts}
+use Rattle.std.proofs.Common.{Some, inr}
 use Rattle.mongo_session.proofs.Remembered.{remembers_later}
 use Rattle.mongo_session.specs.Requests.{CarriesLogin}
 use Rattle.mongo_session.proofs.answer.begin.Goals as goal
@@ -7,7 +6,7 @@ use Rattle.mongo_session.proofs.answer.begin.Goals as goal
 pub returns-in-Some-clause-remembers : goal.returns-in-Some-clause-remembers
 returns-in-Some-clause-remembers g c = λ requests document h is_hello carries.
     let start : CarriesLogin document (Some c.in-Some.start) = rw c.in-Some.is at carries in
-    c.start.ensures.remembers requests document h (hello_starts document c.in-Some.start is_hello start)
+    c.start.ensures.remembers requests document h (inr (is_hello, start))
 
 pub returns-in-None-clause-remembers : goal.returns-in-None-clause-remembers
 returns-in-None-clause-remembers g c = λ requests document h is_hello carries. remembers_later c.args.settings.now requests document c.args.session.now h
