@@ -1,8 +1,8 @@
 -- What a relay between two links in memory tells.
-use Rattle.std.proofs.Common.{◌≡◌, ℕ, ℤ, ◌+◌, ◌^◌, ◌<◌, Bool, true, false, Option, None, Some, Result, Ok, Err, IfOk, List, [], ◌∷◌, ◌++◌, length, flat_map, refl, sym, ap, ◌∙◌, subst, arith, length-append, drop}
+use Rattle.std.proofs.Common.{◌≡◌, ℕ, ℤ, ◌+◌, ◌^◌, ◌<◌, ◌≤◌, Bool, true, false, Option, None, Some, Result, Ok, Err, IfOk, List, [], ◌∷◌, ◌++◌, length, flat_map, refl, sym, ap, ◌∙◌, subst, arith, length-append, drop}
 use Rattle.std.proofs.lemmas.Nat.{from_le_bytes-to_le_bytes_4}
 use Rattle.std.specs.Int.{from_le_bytes, w32}
-use Rattle.std.specs.Io.KnownBytes.{Appends}
+use Rattle.std.specs.Io.KnownBytes.{Appends, Consumes}
 use Rattle.std.specs.List.{AllByRecursion, concat}
 use Rattle.mongo_wire.specs.Frame.{Frame, IsFrame, section_bytes}
 use Rattle.mongo_wire.specs.Header.{maximum_of}
@@ -12,7 +12,7 @@ use Rattle.mongo_wire.specs.Sending.{sections_frame}
 use Rattle.mongo_wire.specs.declared.error.ErrorKind.{ErrorKind}
 use Rattle.mongo_wire.specs.declared.error.ErrorKind.TheVariants.{OutOfMemory, WriteFault}
 use Rattle.mongo_wire.specs.declared.memory_link.MemoryLink.{MemoryLink}
-use Rattle.mongo_proxy.specs.RelayedFrames.{RelayedFrame, command, reply, commands, replies, Passed, Stand, Follow, IsNextOf, beginning, responds_to, sent_of}
+use Rattle.mongo_proxy.specs.RelayedFrames.{RelayedFrame, command, reply, commands, replies, Passed, Stand, Follow, IsNextOf, beginning, responds_to, sent_of, taken_of}
 use Rattle.mongo_proxy.specs.Relays.{EndsWhole, HasRelayed, RelaysWhole, RelaysCut}
 use Rattle.mongo_proxy.specs.Sides.{Sides, sides, Lasts}
 use Rattle.mongo_proxy.specs.Stops.{StopsOn}
@@ -90,6 +90,36 @@ whole_sent : (maximum first : ℤ) (asked : ProxySettings) (most : ℕ) (ended :
 whole_sent maximum first asked most false between after relayed client server h e = sent maximum first asked between after relayed client server h (ap (λ s. s.client.written) e.1) (ap (λ s. s.server.written) e.1)
 whole_sent maximum first asked most true between after relayed client server h e = sent maximum first asked between after relayed client server h e.1.written (ap (λ s. s.written) e.1.server_is)
 
+-- each frame is a byte at least of the side that it was taken from
+frame_some : (frame : List ℕ) (parts : Frame) → IsFrame frame parts → 1 ≤ length frame
+frame_some frame parts is = omega (arith, ap length is.spelled)
+
+command_some : (waits : Awaited) (id : ℤ) (c : Passed) (after : Stand) → IsNextOf waits id (command c) after → 1 ≤ length c.frame
+command_some awaited.Command id c after is = frame_some c.frame is.0.parts is.0.is_frame
+command_some (awaited.Reply asked) id c after is = absurd is
+
+reply_some : (waits : Awaited) (id : ℤ) (r : Passed) (after : Stand) → IsNextOf waits id (reply r) after → 1 ≤ length r.frame
+reply_some awaited.Command id r after is = absurd is
+reply_some (awaited.Reply asked) id r after is = frame_some r.frame is.0.parts is.0.is_frame
+
+few : (before after : Stand) (relayed : List RelayedFrame) → Follow before relayed after → length relayed ≤ length (taken_of (commands relayed)) + length (taken_of (replies relayed))
+few before after [] f = omega arith
+few before after (command c ∷ more) f = omega (arith, few f.0 after more f.2, command_some before.awaited before.id c f.0 f.1, length-append c.frame (taken_of (commands more)))
+few before after (reply r ∷ more) f = omega (arith, few f.0 after more f.2, reply_some before.awaited before.id r f.0 f.1, length-append r.frame (taken_of (replies more)))
+
+-- what was taken is no more than there was
+taken_within : (bytes taken : List ℕ) (left : Option (List ℕ)) → Consumes (Some bytes) left taken → length taken ≤ length bytes
+taken_within bytes taken None c = absurd c
+taken_within bytes taken (Some rest) c = omega (arith, ap length c, length-append taken rest)
+
+-- so the client ended before as many frames were passed on as are wanted
+whole_ended : (maximum first : ℤ) (asked : ProxySettings) (ended : Bool) (between new : Sides) (after : Stand) (relayed : List RelayedFrame) → HasRelayed maximum first (sides_of asked) between after relayed → EndsWhole ended (most_of asked) between new after relayed → ended ≡ true
+whole_ended maximum first asked true between new after relayed h e = refl
+whole_ended maximum first asked false between new after relayed h e =
+    let sent_within = taken_within asked.commands (taken_of (commands relayed)) between.client.left h.client.consumed in
+    let answered_within = taken_within asked.replies (taken_of (replies relayed)) between.server.left h.server.consumed in
+    absurd (omega (arith, e.0, few (beginning first) after relayed h.follow, sent_within, answered_within))
+
 -- the lines of just these bytes, behind which these stand
 abbrev pub TellsSent : List ℕ → List ℕ → List ℕ → List ℕ → Type 0
 TellsSent to_server to_client rest text = (sent answered : List (List ℕ)) → AllByRecursion CountsItself sent → AllByRecursion CountsItself answered → to_server ≡ concat sent → to_client ≡ concat answered → text ≡ traffic_lines sent answered ++ rest
@@ -104,6 +134,7 @@ tells_whole asked first last most old client server done text old_is first_is mo
     let s = whole_sent (maximum_of None) asked.first_id asked (most_of asked) done.ended w.between w.after w.relayed client server w.has_relayed w.ends in
     record {
       done = done;
+      ended = whole_ended (maximum_of None) asked.first_id asked done.ended w.between new w.after w.relayed w.has_relayed w.ends;
       last = last;
       after = new;
       relays = w;

@@ -1,5 +1,5 @@
 -- What `proxy` reads: the frames of both sides. What it tells of their relay.
-use Rattle.std.specs.Prelude.{◌≡◌, ℕ, ℤ, pos, ◌+◌, Option, None, Some, Result, List, [], ◌∷◌, ◌++◌, length, flat_map, map, codes, decimal}
+use Rattle.std.specs.Prelude.{◌≡◌, ℕ, ℤ, pos, ◌+◌, true, Option, None, Some, Result, List, [], ◌∷◌, ◌++◌, length, flat_map, map, codes, decimal}
 use Rattle.hex.specs.Hex.{encode_lower}
 use Rattle.serde_json.specs.Data.{Data}
 use Rattle.mongo_wire.specs.Header.{maximum_of}
@@ -94,9 +94,10 @@ relayed_lines relayed = traffic_lines (sent_frames (commands relayed)) (sent_fra
 
 -- ---- the report
 
--- the frames were relayed until the client ended
+-- the frames were relayed until the client ended between two of them
 pub record TellsWhole (asked : ProxySettings) (text : List ℕ) : Type 0 where
   pub done : Relayed
+  pub ended : done.ended ≡ true
   pub last : ℤ
   pub after : Sides
   pub relays : RelaysWhole (maximum_of None) (most_of asked) asked.first_id last (sides_of asked) after done
