@@ -14,6 +14,7 @@ import base64
 import datetime
 import os
 import random
+import re
 import sys
 
 try:
@@ -26,7 +27,7 @@ except ImportError:
 
 TOP = os.path.dirname(os.path.dirname(os.path.realpath(__file__)))
 ROWS = os.path.join(TOP, 'crates', 'mongo_aws_tests', 'src', 'tests', 'signatures.rt')
-TABLE = 'const SIGNATURES: &str = "'
+TABLE = re.compile(r'const SIGNATURES: &str =\s+"([^"]*)";')
 BODY = 'Action=GetCallerIdentity&Version=2011-06-15'
 
 # Four hundred years of the calendar, after which it repeats. Python's begins with the year 1, ours with the year 0.
@@ -77,8 +78,7 @@ def row_of(words):
 def stored_rows():
     with open(ROWS, encoding='utf-8') as file:
         text = file.read()
-    start = text.index(TABLE) + len(TABLE)
-    return text[start:text.index('";', start)].splitlines()
+    return TABLE.search(text).group(1).splitlines()
 
 
 def random_word(source, most):
