@@ -14,6 +14,7 @@ import base64
 import datetime
 import os
 import random
+import re
 import sys
 
 try:
@@ -24,10 +25,10 @@ try:
 except ImportError:
     botocore = None
 
-TOP = os.path.dirname(os.path.dirname(os.path.abspath(__file__)))
-ROWS = os.path.join(TOP, "crates", "mongo_aws_tests", "src", "tests", "signatures.rt")
-TABLE = "const SIGNATURES: &str = \""
-BODY = "Action=GetCallerIdentity&Version=2011-06-15"
+TOP = os.path.dirname(os.path.dirname(os.path.realpath(__file__)))
+ROWS = os.path.join(TOP, 'crates', 'mongo_aws_tests', 'src', 'tests', 'signatures.rt')
+TABLE = re.compile(r'const SIGNATURES: &str =\s+"([^"]*)";')
+BODY = 'Action=GetCallerIdentity&Version=2011-06-15'
 
 # Four hundred years of the calendar, after which it repeats. Python's begins with the year 1, ours with the year 0.
 CYCLE = datetime.timedelta(days=146097)
@@ -38,30 +39,30 @@ def date_of(moment):
     """The date of so many milliseconds since 1970, in the basic format of ISO 8601."""
     cycles = 1 if moment < 0 else 0
     shown = EPOCH + cycles * CYCLE + datetime.timedelta(milliseconds=moment)
-    return "%04d%s" % (shown.year - 400 * cycles, shown.strftime("%m%dT%H%M%SZ"))
+    return '%04d%s' % (shown.year - 400 * cycles, shown.strftime('%m%dT%H%M%SZ'))
 
 
 def region_of(host):
-    labels = host.split(".")
-    return "us-east-1" if host == "sts.amazonaws.com" or len(labels) == 1 else labels[1]
+    labels = host.split('.')
+    return 'us-east-1' if host == 'sts.amazonaws.com' or len(labels) == 1 else labels[1]
 
 
 def signed(access_key, secret_key, token, moment, host, nonce):
     """The date, the region and the signature, as botocore signs the request."""
     date, region = date_of(moment), region_of(host)
     headers = {
-        "Content-Length": str(len(BODY)),
-        "Content-Type": "application/x-www-form-urlencoded",
-        "Host": host,
-        "X-Amz-Date": date,
-        "X-MongoDB-GS2-CB-Flag": "n",
-        "X-MongoDB-Server-Nonce": base64.b64encode(nonce).decode(),
+        'Content-Length': str(len(BODY)),
+        'Content-Type': 'application/x-www-form-urlencoded',
+        'Host': host,
+        'X-Amz-Date': date,
+        'X-MongoDB-GS2-CB-Flag': 'n',
+        'X-MongoDB-Server-Nonce': base64.b64encode(nonce).decode(),
     }
     if token:
-        headers["X-Amz-Security-Token"] = token
-    request = AWSRequest(method="POST", url="https://sts.amazonaws.com/", data=BODY, headers=headers)
-    request.context["timestamp"] = date
-    signer = SigV4Auth(Credentials(access_key, secret_key, token), "sts", region)
+        headers['X-Amz-Security-Token'] = token
+    request = AWSRequest(method='POST', url='https://sts.amazonaws.com/', data=BODY, headers=headers)
+    request.context['timestamp'] = date
+    signer = SigV4Auth(Credentials(access_key, secret_key, token), 'sts', region)
     text = signer.string_to_sign(request, signer.canonical_request(request))
     return date, region, signer.signature(text, request)
 
@@ -70,33 +71,32 @@ def row_of(words):
     """A row of the table, of its first seven words."""
     access_key, secret_key, token, moment, host, first, second = words
     nonce = bytes([int(first)] * 32 + [int(second)] * 32)
-    answer = signed(access_key, secret_key, None if token == "-" else token, int(moment), "" if host == "-" else host, nonce)
-    return "%s => %s" % (" ".join(words), " ".join(answer))
+    answer = signed(access_key, secret_key, None if token == '-' else token, int(moment), '' if host == '-' else host, nonce)
+    return '%s => %s' % (' '.join(words), ' '.join(answer))
 
 
 def stored_rows():
-    with open(ROWS, encoding="utf-8") as file:
+    with open(ROWS, encoding='utf-8') as file:
         text = file.read()
-    start = text.index(TABLE) + len(TABLE)
-    return text[start:text.index('";', start)].splitlines()
+    return TABLE.search(text).group(1).splitlines()
 
 
 def random_word(source, most):
-    visible = [chr(byte) for byte in range(33, 127) if chr(byte) not in "\"\\"]
-    word = "".join(source.choice(visible) for _ in range(source.randint(1, most)))
-    return "x" if word in ("-", "=>") else word
+    visible = [chr(byte) for byte in range(33, 127) if chr(byte) not in '"\\']
+    word = ''.join(source.choice(visible) for _ in range(source.randint(1, most)))
+    return 'x' if word in ('-', '=>') else word
 
 
 def random_host(source):
-    letters = "abcdefghijklmnopqrstuvwxyzABCDEFGHIJKLMNOPQRSTUVWXYZ0123456789-_"
-    label = lambda: "".join(source.choice(letters) for _ in range(source.randint(1, 12)))
+    letters = 'abcdefghijklmnopqrstuvwxyzABCDEFGHIJKLMNOPQRSTUVWXYZ0123456789-_'
+    label = lambda: ''.join(source.choice(letters) for _ in range(source.randint(1, 12)))
     labels = [label() for _ in range(source.randint(1, 5))]
-    host = source.choice(["sts.amazonaws.com", "sts.%s.amazonaws.com" % label(), ".".join(labels)])
-    return "a" if host == "-" else host
+    host = source.choice(['sts.amazonaws.com', 'sts.%s.amazonaws.com' % label(), '.'.join(labels)])
+    return 'a' if host == '-' else host
 
 
 def random_words(source):
-    token = source.choice(["-", random_word(source, 300)])
+    token = source.choice(['-', random_word(source, 300)])
     moment = source.randint(-62167219200000, 253370764799999)
     return [random_word(source, 40), random_word(source, 90), token, str(moment), random_host(source), str(source.randint(0, 255)), str(source.randint(0, 255))]
 
@@ -114,12 +114,12 @@ def main(words):
             print(row_of(random_words(source)))
         return 0
     rows = stored_rows()
-    wrong = [row for row in rows if row_of(row.split(" => ")[0].split()) != row]
+    wrong = [row for row in rows if row_of(row.split(' => ')[0].split()) != row]
     for row in wrong:
-        print("botocore signs otherwise: %s" % row)
-    print("%d rows, %d of them otherwise, by botocore %s" % (len(rows), len(wrong), botocore.__version__))
+        print('botocore signs otherwise: %s' % row)
+    print('%d rows, %d of them otherwise, by botocore %s' % (len(rows), len(wrong), botocore.__version__))
     return 1 if wrong or not rows else 0
 
 
-if __name__ == "__main__":
+if __name__ == '__main__':
     sys.exit(main(sys.argv[1:]))

@@ -1,5 +1,5 @@
 -- The date of a moment, from a clock that shows the moment.
-use Rattle.std.proofs.Common.{lit<, ◌≡◌, ℕ, ◌+◌, ◌*◌, ◌%◌, ◌<◌, ◌≤◌, List, refl, sym, ap, subst, ◌∙◌, arith, ℤ, pos, negsuc, ◌+ℤ◌, ◌*ℤ◌, ◌<ℤ◌, ◌≤ℤ◌, unsigned_abs}
+use Rattle.std.proofs.Common.{lit<, ◌≡◌, ℕ, ◌+◌, ◌*◌, ◌<◌, List, refl, sym, ap, subst, arith, ℤ, pos, negsuc, ◌+ℤ◌, ◌*ℤ◌, ◌≤ℤ◌, unsigned_abs}
 use Rattle.std.specs.Str.{IsAscii}
 use Rattle.std.proofs.lemmas.Int.{by_lt_z}
 use Rattle.std.proofs.ByRecursion.{IsAscii-from_all}
@@ -12,7 +12,7 @@ use Rattle.jiff_core.proofs.MarchLemmas.{day_count-early}
 use Rattle.jiff_core.proofs.DateLemmas.{civil}
 use Rattle.jiff_core.proofs.DateTimeLemmas.{time_nanos_bound, civil_nanos-parts, civil_nanos-civil_seconds}
 use Rattle.mongo_sasl.specs.Years.{earliest}
-use Rattle.mongo_aws.specs.Date.{CivilSecond, IsCivilSecond, IsWithinSecond, IsDateOf, civil_of, date_text, digit, seconds_of}
+use Rattle.mongo_aws.specs.Date.{CivilSecond, IsWithinSecond, IsDateOf, civil_of, date_text, digit, seconds_of}
 
 -- ---- the year isn't negative
 

@@ -1,5 +1,5 @@
--- The row of a demand that isn't met, at its place in a list; and what a server's first message says where it is read.
-use Rattle.std.proofs.Common.{◌≡◌, ◌⊎◌, ◌↔◌, IsTrue, inl, inr, ℕ, Bool, true, false, List, ◌++◌, length, drop, Result, Ok, Err, IfErr, subst, refl, sym, ap, ◌∙◌, Decides, nat_eq}
+-- Why a server's first message isn't taken: what its reader and its tests answer.
+use Rattle.std.proofs.Common.{◌≡◌, ◌⊎◌, ◌↔◌, IsTrue, inl, inr, ℕ, Bool, List, length, drop, Result, Ok, Err, IfErr, subst, refl, sym, ◌∙◌, nat_eq}
 use Rattle.std.specs.List.{starts_with}
 use Rattle.std.specs.Result.{IsErrAnd}
 use Rattle.std.proofs.lemmas.Slice.Eq.{starts_is}
@@ -9,9 +9,7 @@ use Rattle.mongo_wire.specs.declared.error.ErrorKind.{ErrorKind}
 use Rattle.mongo_wire.specs.declared.error.ErrorKind.TheVariants.{OutOfMemory}
 use Rattle.mongo_command.specs.declared.field.FieldFault.{FieldFault}
 use Rattle.mongo_command.specs.declared.field.FieldFault.TheVariants.{Unreadable, OutOfMemory as NoMemory}
-use Rattle.mongo_command.specs.Conversation.{Demands, demand, UnmetRow}
 use Rattle.mongo_command.specs.Fields.{Answers}
-use Rattle.mongo_command.proofs.Plans.{no_row}
 use Rattle.mongo_sasl.specs.declared.sasl_response.SaslResponse.{SaslResponse}
 use Rattle.mongo_sasl.specs.Reply.{IsSaslReply}
 use Rattle.mongo_sasl.specs.View.{kind_of_field_fault}
@@ -19,12 +17,6 @@ use Rattle.mongo_sasl.proofs.OneReply.{sasl_reply_no_row}
 use Rattle.mongo_aws.specs.Replies.{FirstReplyRow}
 use Rattle.mongo_aws.specs.ServerMessage.{Said, IsServerMessage}
 use Rattle.mongo_aws.specs.Validity.{BeginsWith}
-
-pub unmet_here : {X : Type 0} (refusal : X) (Holds : Type 0) (more : Demands X) → (Holds → ⊥) → UnmetRow (demand refusal Holds more) refusal
-unmet_here refusal Holds more not = inl (refl, not)
-
-pub unmet_later : {X : Type 0} (refusal : X) (Holds : Type 0) (more : Demands X) (x : X) → Holds → UnmetRow more x → UnmetRow (demand refusal Holds more) x
-unmet_later refusal Holds more x holds row = inr (no_row refusal (Holds → ⊥) (λ not. not holds), row)
 
 -- ---- memory that runs out
 

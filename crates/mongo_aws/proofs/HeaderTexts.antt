@@ -1,5 +1,5 @@
 -- The texts of a request's headers.
-use Rattle.std.proofs.Common.{lit<, ◌≡◌, ℕ, Option, None, Some, List, [], ◌∷◌, ◌++◌, append-nil, refl, sym, ap, ◌∙◌, arith, subst}
+use Rattle.std.proofs.Common.{lit<, ◌≡◌, ℕ, Option, None, Some, List, [], ◌∷◌, ◌++◌, append-nil, sym, ap, ◌∙◌, arith}
 use Rattle.std.specs.Prelude.{codes}
 use Rattle.std.specs.Fmt.{digits}
 use Rattle.std.specs.Str.{IsAscii}

@@ -1,7 +1,7 @@
 -- The labels of a host, from where it is cut at its first full stop, and its region.
 use Rattle.std.proofs.Common.{lit<, ◌≡◌, ◌≢◌, ◌↔◌, IsTrue, ℕ, Bool, true, false, not, ◌==◌, if◌then◌else◌, List, [], ◌∷◌, length, Option, Some, None, Bor, refl, sym, ap, ◌∙◌, arith}
 use Rattle.std.specs.Prelude.{slice_get, unwrap_or, bytes_eq}
-use Rattle.std.specs.List.{All, list_all, position_or_len}
+use Rattle.std.specs.List.{list_all}
 use Rattle.std.proofs.lemmas.List.Sums.{fails_before_first, AllPass-from_list_all, list_all-from_AllPass}
 use Rattle.std.proofs.lemmas.List.Splits.{slice_split_none, slice_split_first}
 use Rattle.std.proofs.lemmas.Str.Pattern.{IsSplitOnceResult, split_once_first}

@@ -1,5 +1,5 @@
 -- A signature's header and its message, of values that are those of the definitions.
-use Rattle.std.proofs.Common.{◌≡◌, ℕ, Option, List, sym, ap, ◌∙◌}
+use Rattle.std.proofs.Common.{◌≡◌, ℕ, Option, List, ap, ◌∙◌}
 use Rattle.mongo_sasl.specs.declared.aws_credentials.AwsCredentials.{AwsCredentials}
 use Rattle.mongo_aws.specs.Base64.{base64_of}
 use Rattle.mongo_aws.specs.CanonicalRequest.{Header, request_headers, signed_headers}

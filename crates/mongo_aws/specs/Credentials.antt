@@ -1,5 +1,5 @@
 -- Which credentials can be signed with.
-use Rattle.std.specs.Prelude.{◌≢◌, ℕ, ◌&&◌, Bool, Option, List, [], nat_le, IfSome}
+use Rattle.std.specs.Prelude.{◌≢◌, ℕ, ◌&&◌, Bool, List, [], nat_le, IfSome}
 use Rattle.std.specs.List.{AllPass}
 use Rattle.mongo_sasl.specs.declared.aws_credentials.AwsCredentials.{AwsCredentials}
 

@@ -1,5 +1,5 @@
 -- The host of STS that the server names, and the region that it is in.
-use Rattle.std.specs.Prelude.{◌≡◌, ◌≢◌, ℕ, ◌≤◌, ◌==◌, ◌||◌, Bool, List, [], length, bytes_eq, codes, unwrap_or, if◌then◌else◌, slice_get}
+use Rattle.std.specs.Prelude.{◌≢◌, ℕ, ◌==◌, ◌||◌, Bool, List, [], bytes_eq, codes, unwrap_or, if◌then◌else◌, slice_get}
 use Rattle.std.specs.Char.{is_ascii_alphanumeric}
 use Rattle.std.specs.List.{All, AllPass, slice_split}
 

@@ -1,4 +1,4 @@
-use Rattle.std.proofs.Common.{◌≡◌, ◌∙◌, List, ℕ, IfOk, subst, option_copied}
+use Rattle.std.proofs.Common.{◌≡◌, ◌∙◌, List, ℕ, IfOk, subst}
 use Rattle.mongo_aws.specs.CanonicalRequest.{headers_in}
 use Rattle.mongo_aws.proofs.Signatures.{header_is}
 use Rattle.mongo_aws.proofs.authorization.authorization.Goals as goal

@@ -1,5 +1,4 @@
 use Rattle.std.proofs.Common.{refl, inr}
-use Rattle.mongo_wire.specs.declared.error.ErrorKind.TheVariants.{OutOfMemory}
 use Rattle.mongo_sasl.specs.Moment.{milliseconds_of}
 use Rattle.mongo_aws.specs.SigV4.{SigningRefused, signed_document}
 use Rattle.mongo_aws.proofs.FirstRows.{no_memory}
