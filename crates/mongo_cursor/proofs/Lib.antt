@@ -1,0 +1,5 @@
+pub mod Namespaces
+pub mod Documents
+pub mod Batches
+pub mod Calls
+pub mod Advancing

@@ -1,12 +1,13 @@
 -- The batch that a reply holds, by the server's documentation of find and of getMore: its field `cursor` says the cursor's id,
 -- its namespace, and the documents.
-use Rattle.std.specs.Prelude.{◌≡◌, ◌≢◌, ◌⊎◌, ◌<◌, ℕ, ℤ, List, [], ◌∷◌, ◌++◌, length, map, codes}
+use Rattle.std.specs.Prelude.{◌≡◌, ◌≢◌, ◌⊎◌, ◌<◌, ℕ, ℤ, List, [], ◌∷◌, ◌++◌, length, codes}
 use Rattle.std.specs.List.{AllByRecursion}
 use Rattle.mongo_bson.specs.Document.{Element, IsDocument, text_of}
 use Rattle.mongo_wire.specs.declared.error.ErrorKind.{ErrorKind}
 use Rattle.mongo_wire.specs.declared.error.ErrorKind.TheVariants.{InvalidResponse, OutOfMemory}
 use Rattle.mongo_wire.specs.declared.fault.ResponseFault.TheVariants.{Body}
-use Rattle.mongo_command.specs.Field.{field_of, Required, ReadsInt64}
+use Rattle.mongo_command.specs.Field.{field_of, Required, ReadsInt64, ReadsDocument}
+use Rattle.mongo_command.specs.WriteReply.{EachReads}
 use Rattle.mongo_command.specs.CommandReply.{IsCommandBody}
 use Rattle.mongo_exec.specs.Reply.{CommandRow}
 use Rattle.mongo_cursor.specs.declared.namespace.Namespace.{Namespace}
@@ -40,8 +41,7 @@ ReadsNamespace e namespace = (e.kind ≡ 0x02) × IsNamespace (text_of e.value) 
 pub record HoldsDocuments (array : List ℕ) (documents : List (List ℕ)) : Type 0 where
   pub items : List Element
   pub filled : IsDocument array items
-  pub each : AllByRecursion (λ item. item.kind ≡ 0x03) items
-  pub documents_are : documents ≡ map (λ item. item.value) items
+  pub each : EachReads ReadsDocument items documents
 
 abbrev pub ReadsDocuments : Element → List (List ℕ) → Type 0
 ReadsDocuments e documents = (e.kind ≡ 0x04) × HoldsDocuments e.value documents

@@ -17,8 +17,8 @@ get_more_command namespace id = command_of (codes "getMore") namespace.db (docum
 abbrev pub cursors_array : ℤ → List ℕ
 cursors_array id = document_of (int64_element (codes "0") id ∷ [])
 
-abbrev pub kill_cursors_body : List ℕ → List ℕ → List ℕ
-kill_cursors_body collection cursors = document_of (text_element (codes "killCursors") collection ∷ (array_element (codes "cursors") cursors ∷ []))
+abbrev pub kill_command : Namespace → List ℕ → Command
+kill_command namespace cursors = command_of (codes "killCursors") namespace.db (document_of (text_element (codes "killCursors") namespace.collection ∷ (array_element (codes "cursors") cursors ∷ []))) None
 
 abbrev pub kill_cursors_command : Namespace → ℤ → Command
-kill_cursors_command namespace id = command_of (codes "killCursors") namespace.db (kill_cursors_body namespace.collection (cursors_array id)) None
+kill_cursors_command namespace id = kill_command namespace (cursors_array id)

@@ -1,5 +1,6 @@
-ghost use Rattle.std.specs.Prelude.{ℕ, List, IfOk, IfErr, Option, None, Some};
+ghost use Rattle.std.specs.Prelude.{ℕ, List, IfOk, IfErr, Option};
 ghost use Rattle.mongo_bson.specs.Document.{Element};
+ghost use Rattle.mongo_bson.specs.Value.{IsValue};
 ghost use Rattle.mongo_command.specs.Field.{Required};
 ghost use Rattle.mongo_command.specs.Fields.{Answers, IsValueOf};
 ghost use Rattle.mongo_command.specs.Response.{reply_document};
@@ -65,7 +66,17 @@ fn cursor_of(
     ensures { (found : Option Element) → IsValueOf found value.entry → Answers (Required (ReadsCursor key.now)) found result }
 {
     match value {
-        Some(RawValue::Document(cursor)) => cursor_in(alloc, cursor, key),
+        Some(value) => cursor_of_value(alloc, value, key),
+        None => Err(FieldFault::Unreadable),
+    }
+}
+
+// The batch of a document that a value is.
+fn cursor_of_value(alloc: Global, value: RawValue<'_>, key: &str) -> Result<Batch, FieldFault>
+    ensures { (e : Element) → IsValue e.kind e.value value.entry → Answers (ReadsCursor key.now) e result }
+{
+    match value {
+        RawValue::Document(cursor) => cursor_in(alloc, cursor, key),
         _ => Err(FieldFault::Unreadable),
     }
 }

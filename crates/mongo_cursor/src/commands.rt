@@ -1,12 +1,12 @@
 ghost use Rattle.std.specs.Prelude.{◌≡◌, ◌∷◌, [], Contains, IfOk, IfErr};
 ghost use Rattle.mongo_command.specs.Command.{command_document};
 ghost use Rattle.mongo_command.specs.Exchange.{DocumentRefused};
-ghost use Rattle.mongo_command.specs.Arguments.{field_elements, IsNamed, TooLongFor};
+ghost use Rattle.mongo_command.specs.Arguments.{field_elements, IsNamed};
 ghost use Rattle.mongo_command.specs.Literal.{array_element};
-ghost use Rattle.mongo_cursor.specs.Commands.{get_more_command, kill_cursors_command, kill_cursors_body};
+ghost use Rattle.mongo_cursor.specs.Commands.{get_more_command, kill_cursors_command, kill_command, cursors_array};
 
 use crate::namespace::Namespace;
-use mongo_bson::{BsonFault, RawDocumentBuf, RawValue, Text};
+use mongo_bson::{BsonFault, RawDocumentBuf, RawValue};
 use mongo_command::{ArgumentField, Command, document_of, int64_field, text_field};
 use mongo_wire::Error;
 use std::alloc::Global;
@@ -47,27 +47,35 @@ pub(crate) fn kill_cursors(alloc: Global, namespace: &Namespace, id: i64) -> Res
     ensures command { IfOk result (λ command. command ≡ kill_cursors_command namespace.now id) }
     ensures refused { IfErr result (λ e. DocumentRefused e.kind (command_document (kill_cursors_command namespace.now id))) }
 {
-    let cursors = document_of(alloc, &[int64_field("0", id)])?;
-    let body = kill_cursors_body(alloc, &namespace.collection, &cursors)?;
-    Command::new_raw(alloc, KILL_CURSORS, namespace.db.as_str(), body)
+    let cursors = cursors_array(alloc, id)?;
+    kill_command(alloc, namespace, &cursors)
 }
 
-// The body of the command that closes the cursors of an array of ids.
-fn kill_cursors_body<'a>(
-    alloc: Global,
-    collection: &'a Text,
-    cursors: &'a RawDocumentBuf,
-) -> Result<RawDocumentBuf, BsonFault>
-    ensures body { IfOk result (λ body. body ≡ kill_cursors_body collection.now cursors.now) }
-    ensures refused { IfErr result (λ fault. TooLongFor fault (kill_cursors_body collection.now cursors.now)) }
+// The array of one cursor's id.
+fn cursors_array(alloc: Global, id: i64) -> Result<RawDocumentBuf, BsonFault>
+    ensures array { IfOk result (λ array. array ≡ cursors_array id) }
+    ensures refused { IfErr result (λ fault. fault ≡ BsonFault.OutOfMemory) }
 {
-    document_of(
+    document_of(alloc, &[int64_field("0", id)])
+}
+
+// The command that closes the cursors of an array of ids.
+fn kill_command<'a>(
+    alloc: Global,
+    namespace: &'a Namespace,
+    cursors: &'a RawDocumentBuf,
+) -> Result<Command, Error>
+    ensures command { IfOk result (λ command. command ≡ kill_command namespace.now cursors.now) }
+    ensures refused { IfErr result (λ e. DocumentRefused e.kind (command_document (kill_command namespace.now cursors.now))) }
+{
+    let body = document_of(
         alloc,
         &[
-            text_field(KILL_CURSORS, collection.as_str()),
+            text_field(KILL_CURSORS, namespace.collection.as_str()),
             array_field(CURSORS, cursors),
         ],
-    )
+    )?;
+    Command::new_raw(alloc, KILL_CURSORS, namespace.db.as_str(), body)
 }
 
 // The field `key`, an array: a document whose keys are numbers.
