@@ -40,5 +40,5 @@ pub command_refused : (key : List ℕ) (kind : ErrorKind) (reply : List ℕ) →
 command_refused key OutOfMemory reply refused = inr (inr refl)
 command_refused key kind reply refused = inl refused
 
-pub no_batch : (key reply : List ℕ) → IsCommandBody reply → ((batch : Batch) → HoldsBatch key reply batch → ⊥) → BatchRefused key (InvalidResponse Body) reply
-no_batch key reply body none = inr (inl (body, none))
+pub no_batch : (key reply bytes : List ℕ) (answer : Result Batch FieldFault) → IsCommandBody reply → bytes ≡ reply → answer ≡ Err Unreadable → Answers (HoldsBatch key) bytes answer → BatchRefused key (InvalidResponse Body) reply
+no_batch key reply bytes answer body same is none = inr (inl (body, subst (λ b. Answers (HoldsBatch key) b (Err Unreadable)) same (subst (Answers (HoldsBatch key) bytes) is none)))

@@ -3,3 +3,4 @@ pub mod Documents
 pub mod Batches
 pub mod Calls
 pub mod Advancing
+pub mod Reading
