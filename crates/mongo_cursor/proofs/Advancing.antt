@@ -21,7 +21,7 @@ pub nothing_held : (documents : List (List ℕ)) → (0 < length documents → f
 nothing_held [] none = refl
 nothing_held (d ∷ ds) none = absurd (false≢true (none (omega arith)))
 
-same_taken : (t u : Taken) (ts us : List Taken) → t ∷ ts ≡ u ∷ us → t ≡ u
+pub same_taken : (t u : Taken) (ts us : List Taken) → t ∷ ts ≡ u ∷ us → t ≡ u
 same_taken t u ts us is = cc
 
 module _ {L : Type 0} (state : L → State) (before : Cursor) (rest : List (List ℕ)) (old new : Footing L) (unfailed : has_failed before ≡ false) (none : held before ≡ []) (open_yet : last_id before ≢ pos 0) where

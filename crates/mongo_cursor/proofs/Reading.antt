@@ -28,7 +28,7 @@ use Rattle.mongo_cursor.proofs.Advancing.{same_taken}
 
 taken_more : (maximum : ℤ) (namespace : Namespace) (id : ℤ) (ts us : List Taken) (old middle new : Point) → AreTaken maximum namespace id ts old middle → AreTaken maximum namespace (id_after id ts) us middle new → AreTaken maximum namespace id (ts ++ us) old new
 taken_more maximum namespace id [] us old middle new is more = subst (λ p. AreTaken maximum namespace id us p new) is more
-taken_more maximum namespace id (t ∷ ts) us old middle new is more = (is.0, (is.1, is.2, is.3, taken_more maximum namespace t.batch.id ts us is.1 middle new is.4 more))
+taken_more maximum namespace id (t ∷ ts) us old middle new is more = (is.0, (is.1.0, is.1.1, is.1.2, taken_more maximum namespace t.batch.id ts us is.1.0 middle new is.1.3 more))
 
 id_more : (id : ℤ) (ts us : List Taken) → id_after id (ts ++ us) ≡ id_after (id_after id ts) us
 id_more id [] us = refl
@@ -55,16 +55,23 @@ step_of (Document document) = 1
 step_of Empty = 1
 step_of End = 0
 
+-- one call for an open batch
+abbrev open_count : Bool → ℕ
+open_count closed = if closed then 0 else 1
+
+abbrev call_count : Bool → Bool → ℕ
+call_count empty closed = if empty then open_count closed else 0
+
 unless_empty : (empty : Bool) (n : ℕ) → (empty ≡ true → ⊥) → (if empty then n else 0) ≡ 0
 unless_empty true n not = absurd (not refl)
 unless_empty false n not = refl
 
-empty_and_open : (empty closed : Bool) → empty ≡ true → (closed ≡ true → ⊥) → (if empty then (if closed then 0 else 1) else 0) ≡ 1
+empty_and_open : (empty closed : Bool) → empty ≡ true → (closed ≡ true → ⊥) → call_count empty closed ≡ 1
 empty_and_open true true is not = absurd (not refl)
 empty_and_open true false is not = refl
 empty_and_open false closed is not = absurd (false≢true is)
 
-closed_counts_nothing : (empty closed : Bool) → closed ≡ true → (if empty then (if closed then 0 else 1) else 0) ≡ 0
+closed_counts_nothing : (empty closed : Bool) → closed ≡ true → call_count empty closed ≡ 0
 closed_counts_nothing true true is = refl
 closed_counts_nothing true false is = absurd (false≢true is)
 closed_counts_nothing false closed is = refl
