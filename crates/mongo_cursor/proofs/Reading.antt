@@ -137,8 +137,8 @@ module _ {L : Type 0} (state : L → State) (now next : Cursor) (middle new : Fo
       → Advances state advance now next middle new → ReadsOn (maximum_at old) before next (documents ++ handed_out advance) (calls + step_of advance) (at state old) (at state new)
   reads_more before old advance documents calls r keeps a =
       let asked = subst (λ i. AreTaken (maximum_at old) (namespace_of before) i a.taken (at state middle) (at state new)) r.id
-          (subst (λ n. AreTaken (maximum_at old) n (last_id now) a.taken (at state middle) (at state new)) r.namespace
-              (subst (λ m. AreTaken m (namespace_of now) (last_id now) a.taken (at state middle) (at state new)) (ap frame_maximum keeps.description) (asked_with a.taken a.takes))) in
+      (subst (λ n. AreTaken (maximum_at old) n (last_id now) a.taken (at state middle) (at state new)) r.namespace
+      (subst (λ m. AreTaken m (namespace_of now) (last_id now) a.taken (at state middle) (at state new)) (ap frame_maximum keeps.description) (asked_with a.taken a.takes))) in
       let first = documents_in r.taken in
       let last = documents_in a.taken in
       record {
@@ -212,14 +212,18 @@ module _ {L : Type 0} (state : L → State) (before : Cursor) (out_before : List
         let a = ends.advanced in
         record {
           read = tt;
-          refused = (come.documents, come.adds, inr (record {
-            calls = calls + 1;
-            within = omega (arith, few);
-            lost = document;
-            read = reads_more state now next middle new before old (Document document) come.documents calls come.reads come.keeps a;
-            memory = memory;
-            unfailed = a.goes_on.after_unfailed;
-          }));
+          refused = (
+            come.documents,
+            come.adds,
+            inr (record {
+              calls = calls + 1;
+              within = omega (arith, few);
+              lost = document;
+              read = reads_more state now next middle new before old (Document document) come.documents calls come.reads come.keeps a;
+              memory = memory;
+              unfailed = a.goes_on.after_unfailed;
+            }),
+          );
           rest = keeps_on old.connection middle.connection new.connection come.keeps ends.rest;
           counts = counts_on (state old.link) (state middle.link) (state new.link) come.counts ends.counts;
         }

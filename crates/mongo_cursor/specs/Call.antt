@@ -36,8 +36,8 @@ abbrev pub CallRefused : {L : Type 0} → (L → State) → Command → (ErrorKi
 CallRefused state command Refused kind old new =
     IsUnbegun kind old new
     ⊎ ((kept_fault old.connection ≡ None)
-      × (ExchangeRefused kind (maximum_at old) (command_message command) (at state old) (at state new) (kept_fault new.connection)
-        ⊎ Misread (maximum_at old) command Refused kind (at state old) (at state new) (kept_fault new.connection)))
+    × (ExchangeRefused kind (maximum_at old) (command_message command) (at state old) (at state new) (kept_fault new.connection)
+    ⊎ Misread (maximum_at old) command Refused kind (at state old) (at state new) (kept_fault new.connection)))
 
 pub record EndsCall {L T : Type 0} (state : L → State) (command : Command) (Reads : List ℕ → T → Type 0) (Refused : ErrorKind → List ℕ → Type 0) (result : Result T Error) (old new : Footing L) : Type 0 where
   -- one frame was sent and one was taken, whose document says this

@@ -58,11 +58,7 @@ fn batch_in(alloc: Global, document: RawDocument<'_>, key: &str) -> Result<Batch
 }
 
 // The batch of a field that has to be there.
-fn cursor_of(
-    alloc: Global,
-    value: Option<RawValue<'_>>,
-    key: &str,
-) -> Result<Batch, FieldFault>
+fn cursor_of(alloc: Global, value: Option<RawValue<'_>>, key: &str) -> Result<Batch, FieldFault>
     ensures { (found : Option Element) → IsValueOf found value.entry → Answers (Required (ReadsCursor key.now)) found result }
 {
     match value {
