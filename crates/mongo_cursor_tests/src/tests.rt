@@ -1,0 +1,4 @@
+mod calls;
+mod cursors;
+mod job;
+mod rows;
