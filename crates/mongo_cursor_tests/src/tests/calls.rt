@@ -1,4 +1,6 @@
 // The calls of a cursor, and what is seen of each as a text.
+ghost use Rattle.std.specs.Prelude.{◌<◌};
+
 use super::job::{Job, Line, find};
 use mongo_bson::Documents;
 use mongo_cursor::{Advance, Cursor, CursorError};
