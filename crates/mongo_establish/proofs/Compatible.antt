@@ -15,7 +15,7 @@ use Rattle.mongo_sasl.specs.declared.mechanism.AuthMechanism.{AuthMechanism}
 use Rattle.mongo_sasl.specs.declared.mechanism.AuthMechanism.TheVariants.{MongoDbCr}
 use Rattle.mongo_establish.specs.declared.conversation.Conversation.{Conversation}
 use Rattle.mongo_establish.specs.declared.conversation.Conversation.TheVariants.{Scram}
-use Rattle.mongo_establish.specs.Setup.{Setup, start_of}
+use Rattle.mongo_establish.specs.Setup.{LoginSetup, Setup, start_of}
 use Rattle.mongo_establish.specs.Established.{StoppedHandshake}
 use Rattle.mongo_establish.specs.Greeting.{Greeting, Greets}
 use Rattle.mongo_establish.specs.Login.{logging_in, speculative_reply, IsMechanism, InvalidRow}
@@ -62,7 +62,7 @@ no_document_row document (inr (other, said)) = description_row_other said.respon
 fits_hello : (setup : Setup) → NeverIncompatible (hello_plan setup)
 unfolding hello_plan
 fits_hello setup =
-    never_unless IncompatibleServer (HelloRow setup.credential) (saying (hello_said setup) (after_hello setup.pending.address)) (no_hello_row setup.credential) (never_saying IncompatibleServer (hello_said setup) (after_hello setup.pending.address) (λ reply.
+    never_unless IncompatibleServer (HelloRow setup.login.credential) (saying (hello_said setup.login) (after_hello setup.pending.address)) (no_hello_row setup.login.credential) (never_saying IncompatibleServer (hello_said setup.login) (after_hello setup.pending.address) (λ reply.
     never_unless IncompatibleServer (DocumentRow reply) (reading (Greets setup.pending.address reply) ending) (no_document_row reply) (never_reading IncompatibleServer (Greets setup.pending.address reply) ending (λ greeting. never_ending IncompatibleServer greeting))))
 
 -- ---- the login
@@ -71,15 +71,15 @@ no_invalid : (reply : Option (List ℕ)) (mechanism : AuthMechanism) (credential
 no_invalid None mechanism credential row = row
 no_invalid (Some reply) mechanism credential row = row
 
-fits_validated : (mechanism : AuthMechanism) (setup : Setup) (credential : Credential) (greeting : Greeting) (conversation : Conversation) → NeverIncompatible (validated mechanism setup credential greeting conversation)
+fits_validated : (mechanism : AuthMechanism) (setup : LoginSetup) (credential : Credential) (greeting : Greeting) (conversation : Conversation) → NeverIncompatible (validated mechanism setup credential greeting conversation)
 fits_validated mechanism setup credential greeting conversation =
     never_unless IncompatibleServer (InvalidRow (speculative_reply setup greeting) mechanism credential) (conversation_plan conversation setup credential greeting) (no_invalid (speculative_reply setup greeting) mechanism credential) (joins conversation setup credential greeting).fits
 
-fits_mechanism : (mechanism : AuthMechanism) (setup : Setup) (credential : Credential) (greeting : Greeting) → NeverIncompatible (mechanism_plan mechanism setup credential greeting)
+fits_mechanism : (mechanism : AuthMechanism) (setup : LoginSetup) (credential : Credential) (greeting : Greeting) → NeverIncompatible (mechanism_plan mechanism setup credential greeting)
 unfolding mechanism_plan
 fits_mechanism mechanism setup credential greeting = never_reading IncompatibleServer (HasConversation mechanism) (validated mechanism setup credential greeting) (fits_validated mechanism setup credential greeting)
 
-fits_login_by : (who : Option Credential) (setup : Setup) (greeting : Greeting) → NeverIncompatible (login_by who setup greeting)
+fits_login_by : (who : Option Credential) (setup : LoginSetup) (greeting : Greeting) → NeverIncompatible (login_by who setup greeting)
 fits_login_by None setup greeting = never_ending IncompatibleServer greeting
 fits_login_by (Some credential) setup greeting =
     never_reading IncompatibleServer (IsMechanism credential.mechanism (speculative_reply setup greeting) greeting.description) (λ mechanism. mechanism_plan mechanism setup credential greeting) (λ mechanism. fits_mechanism mechanism setup credential greeting)
@@ -91,5 +91,5 @@ unfolding login_plan
 compatible {given = given} setup opened connection kind old new after first last s is =
     elim (subst (λ k. StoppedHandshake given setup opened connection k (start_of setup old first) (checkpoint (point new after) last)) is s) [
       | inl hello ↦ no_stop (hello_plan setup) old new setup.first_id after (fits_hello setup) hello.1.hello
-      | inr login ↦ no_stop (login_plan setup login.greeting) login.middle.state new login.middle.id after (fits_login_by (logging_in setup login.greeting) setup login.greeting) login.login
+      | inr login ↦ no_stop (login_plan setup.login login.greeting) login.middle.state new login.middle.id after (fits_login_by (logging_in setup.login login.greeting) setup.login login.greeting) login.login
     ]

@@ -17,7 +17,7 @@ use Rattle.mongo_sasl.proofs.X509Joins.{x509_joins}
 use Rattle.mongo_scram.proofs.ScramJoins.{scram_joins}
 use Rattle.mongo_establish.specs.declared.conversation.Conversation.{Conversation}
 use Rattle.mongo_establish.specs.declared.conversation.Conversation.TheVariants.{Scram, Plain as PlainText, X509}
-use Rattle.mongo_establish.specs.Setup.{Setup}
+use Rattle.mongo_establish.specs.Setup.{LoginSetup}
 use Rattle.mongo_establish.specs.Conversations.{login_part}
 use Rattle.mongo_establish.specs.Greeting.{Greeting}
 use Rattle.mongo_establish.specs.Login.{LoginHanded, login_handed, scram_handed}
@@ -76,6 +76,6 @@ part_joins (Scram version) handed = scram_joins (scram_handed version handed)
 part_joins PlainText handed = plain_joins (plain_handed handed.credential handed.options.auth_options.server_api handed.maximum)
 part_joins X509 handed = x509_joins (x509_handed handed.credential handed.options.auth_options.server_api (is_some handed.reply) handed.maximum)
 
-pub joins : (conversation : Conversation) (setup : Setup) (credential : Credential) (greeting : Greeting) → Joins (conversation_plan conversation setup credential greeting) (HoldsConversation conversation setup credential greeting) greeting
+pub joins : (conversation : Conversation) (setup : LoginSetup) (credential : Credential) (greeting : Greeting) → Joins (conversation_plan conversation setup credential greeting) (HoldsConversation conversation setup credential greeting) greeting
 unfolding conversation_plan
 joins conversation setup credential greeting = then_joins greeting (part_joins conversation (login_handed setup credential greeting))

@@ -30,7 +30,7 @@ use Rattle.mongo_scram.proofs.LoginSteps.{StopsScram}
 use Rattle.mongo_establish.specs.declared.conversation.Conversation.{Conversation}
 use Rattle.mongo_establish.specs.declared.conversation.Conversation.TheVariants.{Scram, Plain as PlainText, X509}
 use Rattle.mongo_establish.specs.declared.answered_round.AnsweredRound.{AnsweredRound}
-use Rattle.mongo_establish.specs.Setup.{Setup}
+use Rattle.mongo_establish.specs.Setup.{LoginSetup}
 use Rattle.mongo_establish.specs.Costs.{AcceptedCosts, StoppedCosts}
 use Rattle.mongo_establish.specs.First.{IsRoundBy, scram_round}
 use Rattle.mongo_establish.specs.Greeting.{Greeting}
@@ -53,27 +53,27 @@ then_stopped plan greeting kind old new before after s = stopped_first plan (λ 
 -- ---- SCRAM
 
 -- what it was handed is what the plan says
-handed_same : (version : ScramVersion) (setup : Setup) (credential : Credential) (greeting : Greeting) (api : Option ServerApi) (round : Option AnsweredRound) (begun : Option ScramRound) (held : Option StreamDescription) → api ≡ setup.options.auth_options.server_api → begun ≡ scram_round round → IsRoundBy (Some (Scram version)) credential setup greeting round → held ≡ Some greeting.description
+handed_same : (version : ScramVersion) (setup : LoginSetup) (credential : Credential) (greeting : Greeting) (api : Option ServerApi) (round : Option AnsweredRound) (begun : Option ScramRound) (held : Option StreamDescription) → api ≡ setup.options.auth_options.server_api → begun ≡ scram_round round → IsRoundBy (Some (Scram version)) credential setup greeting round → held ≡ Some greeting.description
     → handed_to version credential api begun (base64_of setup.nonces.second) setup.options.max_iterations (frame_maximum held) ≡ scram_handed_by version setup credential greeting
 handed_same version setup credential greeting api round begun held p b went d =
     let q = ap speculated_of b ∙ went.scram tt in
     λ i. let h : Handed = record { version = version; credential = credential; server_api = p i; speculated = q i; nonce = base64_of setup.nonces.second; max_iterations = setup.options.max_iterations; maximum = frame_maximum (d i) } in h
 
-scram_accepted : (version : ScramVersion) (setup : Setup) (credential : Credential) (greeting : Greeting) (buffer : FrameBuffer) (old new : Checkpoint) → Accepted (scram_handed_by version setup credential greeting) buffer old new → Conversed [] (Scram version) setup credential greeting old new
+scram_accepted : (version : ScramVersion) (setup : LoginSetup) (credential : Credential) (greeting : Greeting) (buffer : FrameBuffer) (old new : Checkpoint) → Accepted (scram_handed_by version setup credential greeting) buffer old new → Conversed [] (Scram version) setup credential greeting old new
 unfolding conversation_plan
 scram_accepted version setup credential greeting buffer old new is = record {
   reached = then_reached (scram_plan (scram_handed_by version setup credential greeting)) is.challenge greeting old.point.state new.point.state old.point.id new.point.id (accepted_reached (scram_handed_by version setup credential greeting) buffer old new is);
   costs = record { buffer = buffer; accepted = is };
 }
 
-scram_stopped : (version : ScramVersion) (setup : Setup) (credential : Credential) (greeting : Greeting) (kind : ErrorKind) (kept : Option ErrorKind) (old new : Checkpoint) → StopsScram (scram_handed_by version setup credential greeting) kind kept old new → ConversationStopped [] (Scram version) setup credential greeting kind kept old new
+scram_stopped : (version : ScramVersion) (setup : LoginSetup) (credential : Credential) (greeting : Greeting) (kind : ErrorKind) (kept : Option ErrorKind) (old new : Checkpoint) → StopsScram (scram_handed_by version setup credential greeting) kind kept old new → ConversationStopped [] (Scram version) setup credential greeting kind kept old new
 unfolding conversation_plan
 scram_stopped version setup credential greeting kind kept old new is = record {
   stopped = then_stopped (scram_plan (scram_handed_by version setup credential greeting)) greeting kind old.point.state new.point.state old.point.id new.point.id is.1;
   costs = is.0;
 }
 
-module _ (version : ScramVersion) (setup : Setup) (credential : Credential) (round : Option AnsweredRound) (opened left : Connection) (api : Option ServerApi) (same : api ≡ setup.options.auth_options.server_api) (begun : Option ScramRound) (begins : begun ≡ scram_round round) where
+module _ (version : ScramVersion) (setup : LoginSetup) (credential : Credential) (round : Option AnsweredRound) (opened left : Connection) (api : Option ServerApi) (same : api ≡ setup.options.auth_options.server_api) (begun : Option ScramRound) (begins : begun ≡ scram_round round) where
   abbrev handed : Handed
   handed = handed_to version credential api begun (base64_of setup.nonces.second) setup.options.max_iterations (frame_maximum opened.stream_description)
 
@@ -107,11 +107,11 @@ module _ (version : ScramVersion) (setup : Setup) (credential : Credential) (rou
 
 -- The steps of what it was handed are those of its plan, by each greeting that says what the connection holds and what the first
 -- round is.
-abbrev pub IsPartBy : {A : Type 0} → Plan A → Conversation → Setup → Credential → Option StreamDescription → Option AnsweredRound → Type 0
+abbrev pub IsPartBy : {A : Type 0} → Plan A → Conversation → LoginSetup → Credential → Option StreamDescription → Option AnsweredRound → Type 0
 IsPartBy plan conversation setup credential held round =
     (greeting : Greeting) → held ≡ Some greeting.description → IsRoundBy (Some conversation) credential setup greeting round → (past : List Event) (turn : Turn Greeting) → followed plan greeting past turn → conversation_plan conversation setup credential greeting past turn
 
-module _ (own conversation : Conversation) (is : conversation ≡ own) (free : scram_in (Some own) ≡ None) (setup : Setup) (credential : Credential) (round : Option AnsweredRound) (opened left : Connection) {A : Type 0} (plan : Plan A) (part : IsPartBy plan own setup credential opened.stream_description round) where
+module _ (own conversation : Conversation) (is : conversation ≡ own) (free : scram_in (Some own) ≡ None) (setup : LoginSetup) (credential : Credential) (round : Option AnsweredRound) (opened left : Connection) {A : Type 0} (plan : Plan A) (part : IsPartBy plan own setup credential opened.stream_description round) where
   free_done : (given : List Given) (greeting : Greeting) (r : Result (Unit {0}) Error) (old new : Checkpoint) → CostsNothing old.ledgers new.ledgers → opened.stream_description ≡ Some greeting.description → IsRoundBy (Some own) credential setup greeting round
       → OnOk r ((answer : A) × ReachedGiven given plan answer old.point new.point) → OnOk r (Conversed given own setup credential greeting old new)
   free_done given greeting (Ok done) old new nothing described went reached = record {
@@ -146,7 +146,7 @@ module _ (own conversation : Conversation) (is : conversation ≡ own) (free : s
 
 -- ---- PLAIN and X.509
 
-module _ (setup : Setup) (credential : Credential) (held : Option StreamDescription) (round : Option AnsweredRound) (api : Option ServerApi) (same : api ≡ setup.options.auth_options.server_api) where
+module _ (setup : LoginSetup) (credential : Credential) (held : Option StreamDescription) (round : Option AnsweredRound) (api : Option ServerApi) (same : api ≡ setup.options.auth_options.server_api) where
   pub plain_part : IsPartBy (plain_plan (plain_handed credential api (frame_maximum held))) PlainText setup credential held round
   unfolding conversation_plan
   plain_part greeting described went past turn h = subst (λ x. followed (plain_plan x) greeting past turn) (λ i. plain_handed credential (same i) (frame_maximum (described i))) h

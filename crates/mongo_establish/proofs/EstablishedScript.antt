@@ -23,13 +23,13 @@ use Rattle.mongo_establish.proofs.EstablishmentPlan.{IsEstablished, handshake_en
 -- ---- what was made
 
 -- a hello and a login that were followed to their ends are a handshake
-pub handshake_reached : {given : List Given} (setup : Setup) (greeting : Greeting) (old middle new : State) (between after : ℤ) → Reached (hello_plan setup) greeting (point old setup.first_id) (point middle between) → ReachedGiven given (login_plan setup greeting) greeting (point middle between) (point new after) → ReachedGiven given (handshake_plan setup) greeting (point old setup.first_id) (point new after)
+pub handshake_reached : {given : List Given} (setup : Setup) (greeting : Greeting) (old middle new : State) (between after : ℤ) → Reached (hello_plan setup) greeting (point old setup.first_id) (point middle between) → ReachedGiven given (login_plan setup.login greeting) greeting (point middle between) (point new after) → ReachedGiven given (handshake_plan setup) greeting (point old setup.first_id) (point new after)
 unfolding handshake_plan
-handshake_reached setup greeting old middle new between after hello login = reached_both (hello_plan setup) (login_plan setup) greeting greeting old middle new setup.first_id between after hello login
+handshake_reached setup greeting old middle new between after hello login = reached_both (hello_plan setup) (login_plan setup.login) greeting greeting old middle new setup.first_id between after hello login
 
 -- the script of an end
 abbrev pub script_of : (setup : Setup) (events : List Event) (greeting : Greeting) → IsEstablished setup events greeting → Script
-script_of setup events greeting e = record { given = given_in e.more; commands = hello_document setup ∷ documents_in e.more; replies = e.reply ∷ replies_in e.more; greeting = greeting }
+script_of setup events greeting e = record { given = given_in e.more; commands = hello_document setup.login ∷ documents_in e.more; replies = e.reply ∷ replies_in e.more; greeting = greeting }
 
 is_script : (setup : Setup) (events : List Event) (greeting : Greeting) (e : IsEstablished setup events greeting) → IsScript setup (script_of setup events greeting e)
 is_script setup events greeting e = record {
@@ -44,14 +44,14 @@ is_script setup events greeting e = record {
   service = e.service;
 }
 
-script_sent : (setup : Setup) (events : List Event) (greeting : Greeting) (e : IsEstablished setup events greeting) (bytes : List ℕ) → IsSaid (said_in events) setup.first_id bytes → IsSent (hello_document setup ∷ documents_in e.more) setup.first_id (greeted_maximum greeting) bytes
+script_sent : (setup : Setup) (events : List Event) (greeting : Greeting) (e : IsEstablished setup events greeting) (bytes : List ℕ) → IsSaid (said_in events) setup.first_id bytes → IsSent (hello_document setup.login ∷ documents_in e.more) setup.first_id (greeted_maximum greeting) bytes
 script_sent setup events greeting e bytes said =
-    let first : IsSaid (hello_said setup ∷ said_in e.more) setup.first_id bytes = subst (λ x. IsSaid (said_in x) setup.first_id bytes) e.events_are said in
+    let first : IsSaid (hello_said setup.login ∷ said_in e.more) setup.first_id bytes = subst (λ x. IsSaid (said_in x) setup.first_id bytes) e.events_are said in
     (first.0, first.1, first.2, first.3, first.4, within_sent (greeted_maximum greeting) e.more (next_id setup.first_id) first.1 e.within first.5)
 
 script_heard : (setup : Setup) (events : List Event) (greeting : Greeting) (e : IsEstablished setup events greeting) (bytes : List ℕ) → IsHeard events bytes → IsWhole (e.reply ∷ replies_in e.more) (greeted_maximum greeting) bytes
 script_heard setup events greeting e bytes heard =
-    let first : IsHeard (exchanged (hello_said setup) e.reply ∷ e.more) bytes = subst (λ x. IsHeard x bytes) e.events_are heard in
+    let first : IsHeard (exchanged (hello_said setup.login) e.reply ∷ e.more) bytes = subst (λ x. IsHeard x bytes) e.events_are heard in
     (first.0, first.1, first.2, first.3, first.4, first.5, first.6, within_heard (greeted_maximum greeting) e.more first.1 e.within first.7)
 
 -- of a handshake that was followed to its end
@@ -112,7 +112,7 @@ ended_leads plan events greeting bytes heard rest ended given is joined = record
 pub record ScriptLeads (setup : Setup) (bytes : List ℕ) (h : HasScript setup bytes) : Type 0 where
   pub first : List ℕ
   pub later : List ℕ
-  pub hello : Leads (hello_plan setup) bytes (ends h.script.greeting) (hello_said setup ∷ []) first later
+  pub hello : Leads (hello_plan setup) bytes (ends h.script.greeting) (hello_said setup.login ∷ []) first later
   pub commands : List Said
   pub whole : LeadsGiven h.script.given (establishment_plan setup) bytes (ends h.script.greeting) commands h.taken h.rest
   pub said : IsSaid commands setup.first_id h.sent
@@ -123,18 +123,18 @@ script_leads setup bytes h =
     let s = h.is_script in
     let greeting = script.greeting in
     let e = script_ends setup script s in
-    let sent : IsSent (hello_document setup ∷ documents_in e.more) setup.first_id (greeted_maximum greeting) h.sent = subst (λ x. IsSent x setup.first_id (greeted_maximum greeting) h.sent) (s.commands_are ∙ ap (λ x. hello_document setup ∷ x) e.commands_are) h.is_written in
+    let sent : IsSent (hello_document setup.login ∷ documents_in e.more) setup.first_id (greeted_maximum greeting) h.sent = subst (λ x. IsSent x setup.first_id (greeted_maximum greeting) h.sent) (s.commands_are ∙ ap (λ x. hello_document setup.login ∷ x) e.commands_are) h.is_written in
     let taken : IsWhole (s.first_reply ∷ replies_in e.more) (greeted_maximum greeting) h.taken = subst (λ x. IsWhole x (greeted_maximum greeting) h.taken) (s.replies_are ∙ ap (λ x. s.first_reply ∷ x) e.replies_are) h.is_taken in
     let later_said = events_sent_within (greeted_maximum greeting) e.more (next_id setup.first_id) sent.1 e.within sent.5 in
     let later_heard = heard_within (greeted_maximum greeting) e.more taken.1 e.within taken.7 in
-    let sendable = framed_sendable (hello_said setup) sent.0 setup.first_id sent.3 sent.4 in
-    let heard_first : IsHeard (exchanged (hello_said setup) s.first_reply ∷ []) taken.0 = (taken.0, [], taken.2, sym (append-nil taken.0), taken.4, taken.5, taken.6, refl) in
-    let heard_all : IsHeard (exchanged (hello_said setup) s.first_reply ∷ e.more) h.taken = (taken.0, taken.1, taken.2, taken.3, taken.4, taken.5, taken.6, later_heard) in
+    let sendable = framed_sendable (hello_said setup.login) sent.0 setup.first_id sent.3 sent.4 in
+    let heard_first : IsHeard (exchanged (hello_said setup.login) s.first_reply ∷ []) taken.0 = (taken.0, [], taken.2, sym (append-nil taken.0), taken.4, taken.5, taken.6, refl) in
+    let heard_all : IsHeard (exchanged (hello_said setup.login) s.first_reply ∷ e.more) h.taken = (taken.0, taken.1, taken.2, taken.3, taken.4, taken.5, taken.6, later_heard) in
     record {
       first = taken.0;
       later = taken.1 ++ h.rest;
       hello = ended_leads (hello_plan setup) _ greeting bytes taken.0 (taken.1 ++ h.rest) (e.hello sendable) refl heard_first (h.joined ∙ ap (λ x. x ++ h.rest) taken.3 ∙ append_assoc taken.0 taken.1 h.rest);
-      commands = hello_said setup ∷ said_in e.more;
+      commands = hello_said setup.login ∷ said_in e.more;
       whole = ended_leads (establishment_plan setup) _ greeting bytes h.taken h.rest (e.whole sendable (said_sendable (said_in e.more) (next_id setup.first_id) sent.1 later_said)) e.given_is heard_all h.joined;
       said = (sent.0, sent.1, sent.2, sent.3, sent.4, later_said);
     }

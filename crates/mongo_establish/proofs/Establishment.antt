@@ -33,12 +33,12 @@ use Rattle.mongo_establish.proofs.EstablishedScript.{handshake_reached, script_l
 -- a hello that was stopped is a handshake that was
 hello_stops : (setup : Setup) (kind : ErrorKind) (old new : State) (after : ℤ) → Stopped (hello_plan setup) kind (point old setup.first_id) (point new after) → Stopped (handshake_plan setup) kind (point old setup.first_id) (point new after)
 unfolding handshake_plan
-hello_stops setup kind old new after s = (s.0, stopped_first (hello_plan setup) (login_plan setup) kind old new setup.first_id after s.1)
+hello_stops setup kind old new after s = (s.0, stopped_first (hello_plan setup) (login_plan setup.login) kind old new setup.first_id after s.1)
 
 -- and so is a login after its hello
-login_stops : {given : List Given} (setup : Setup) (greeting : Greeting) (kind : ErrorKind) (old middle new : State) (between after : ℤ) → Reached (hello_plan setup) greeting (point old setup.first_id) (point middle between) → StoppedWith given (login_plan setup greeting) kind (point middle between) (point new after) → StoppedWith given (handshake_plan setup) kind (point old setup.first_id) (point new after)
+login_stops : {given : List Given} (setup : Setup) (greeting : Greeting) (kind : ErrorKind) (old middle new : State) (between after : ℤ) → Reached (hello_plan setup) greeting (point old setup.first_id) (point middle between) → StoppedWith given (login_plan setup.login greeting) kind (point middle between) (point new after) → StoppedWith given (handshake_plan setup) kind (point old setup.first_id) (point new after)
 unfolding handshake_plan
-login_stops setup greeting kind old middle new between after hello s = (s.0, stopped_second (hello_plan setup) (login_plan setup) greeting kind old middle new setup.first_id between after hello s.1)
+login_stops setup greeting kind old middle new between after hello s = (s.0, stopped_second (hello_plan setup) (login_plan setup.login) greeting kind old middle new setup.first_id between after hello s.1)
 
 -- whatever part of a handshake was stopped
 pub shaking_stops : {given : List Given} (setup : Setup) (opened connection : Connection) (kind : ErrorKind) (old new : State) (after : ℤ) (first last : Ledgers) → StoppedHandshake given setup opened connection kind (start_of setup old first) (checkpoint (point new after) last) → StoppedWith given (handshake_plan setup) kind (point old setup.first_id) (point new after)
@@ -141,7 +141,7 @@ stopped_refusal (PostHello generation) setup kind old new after first last bytes
 pub script_unrefused : (setup : Setup) (bytes : List ℕ) (phase : HandshakePhase) (refusal : Refusal) → HasScript setup bytes → LeadsIn phase setup bytes refusal → ⊥
 script_unrefused setup bytes (PreHello generation) refusal script l =
     let s = script_leads setup bytes script in
-    no_refusal (hello_plan setup) bytes script.script.greeting refusal.kind (hello_said setup ∷ []) refusal.commands s.first s.later refusal.taken refusal.unread (one_hello setup) s.hello l.2
+    no_refusal (hello_plan setup) bytes script.script.greeting refusal.kind (hello_said setup.login ∷ []) refusal.commands s.first s.later refusal.taken refusal.unread (one_hello setup) s.hello l.2
 script_unrefused setup bytes (PostHello generation) refusal script l =
     let s = script_leads setup bytes script in
     no_refusal (establishment_plan setup) bytes script.script.greeting refusal.kind s.commands refusal.commands script.taken script.rest refusal.taken refusal.unread (one_establishment setup) s.whole l.1

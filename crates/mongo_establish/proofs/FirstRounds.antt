@@ -18,7 +18,7 @@ use Rattle.mongo_establish.specs.declared.client_first.ClientFirst.{ClientFirst}
 use Rattle.mongo_establish.specs.declared.client_first.ClientFirst.TheVariants.{Scram, X509}
 use Rattle.mongo_establish.specs.declared.answered_round.AnsweredRound.{AnsweredRound}
 use Rattle.mongo_establish.specs.declared.answered_round.AnsweredRound.TheVariants.{Scram as ScramAnswered, X509 as X509Answered}
-use Rattle.mongo_establish.specs.Setup.{Setup}
+use Rattle.mongo_establish.specs.Setup.{LoginSetup}
 use Rattle.mongo_establish.specs.First.{first_document, IsScramFirst, IsX509First, IsFirstIn, IsFirstMessage, IsUnmade, IsRoundFrom, IsRoundIn, IsOwnRound, IsRoundOf, scram_round, round_with}
 use Rattle.mongo_establish.specs.Greeting.{Greeting}
 use Rattle.mongo_establish.specs.Speculation.{mechanism_before, ConversationRow, MechanismRow, speculation, speculation_by, speculation_in, scram_speculation, speculative_message, speculative_nonce, answer_to}
@@ -109,7 +109,7 @@ round_in : (conversation : Option Conversation) (credential : Credential) (nonce
 round_in (Some (ByScram version)) credential nonce first answer scram is = scram_made version credential nonce first answer is
 round_in conversation credential nonce first answer scram is = absurd scram
 
-pub round_of : (who : Option Credential) (setup : Setup) (greeting : Greeting) (first : Option ClientFirst) (round : Option AnsweredRound) → setup.credential ≡ who → IsFirstMessage who setup.nonces.first first
+pub round_of : (who : Option Credential) (setup : LoginSetup) (greeting : Greeting) (first : Option ClientFirst) (round : Option AnsweredRound) → setup.credential ≡ who → IsFirstMessage who setup.nonces.first first
     → is_some round ≡ is_some (answer_to (option_map first_document first) greeting.speculative) → speculated_of (scram_round round) ≡ round_with first greeting.speculative → IsRoundOf who setup greeting round
 round_of None setup greeting first round same is there by = tt
 round_of (Some credential) setup greeting first round same is there by =

@@ -29,14 +29,13 @@ use Rattle.mongo_establish.specs.Pooled.{phase_at, IsPooled, UnnamedService}
 use Rattle.mongo_establish.specs.Refusal.{NoService}
 use Rattle.mongo_establish.specs.Speculation.{HelloRow}
 use Rattle.mongo_establish.specs.Stopped.{StoppedIn, StoppedAfterHello}
-use Rattle.mongo_establish.proofs.LoginAlike.{pending_over, reached_alike, stopped_alike, costs_alike, stopped_login_costs_alike}
 use Rattle.mongo_establish.proofs.EstablishedScript.{handshake_reached, script_by, script_given, scripted_by}
 
 -- ---- the plans of a handshake
 
 -- the hello to this address, of a login that asks the same
 abbrev hello_at : Setup → ServerAddress → Plan Greeting
-hello_at setup address = unless (HelloRow setup.credential) (saying (hello_said setup) (after_hello address))
+hello_at setup address = unless (HelloRow setup.login.credential) (saying (hello_said setup.login) (after_hello address))
 
 same_description : (a b : StreamDescription) → Some a ≡ Some b → a ≡ b
 same_description a b e = cc
@@ -62,25 +61,19 @@ module _ (pending : PendingConnection) (options : HandshakerOptions) (credential
   unfolding hello_plan
   hello_stopped kind old new before after s = subst (λ address. Stopped (hello_at wanted address) kind (point old before) (point new after)) same s
 
-  login_reached : {given : List Given} (greeting : Greeting) (old new : State) (before after : ℤ) → ReachedGiven given (login_plan over greeting) greeting (point old before) (point new after) → ReachedGiven given (login_plan wanted greeting) greeting (point old before) (point new after)
-  login_reached = reached_alike (pending_over opened) pending options credential nonces id id
-
   -- ---- a handshake that was followed to its end
 
   handshake_wanted : {given : List Given} (connection : Connection) (old new : State) (after : ℤ) (first last : Ledgers) (reply : HelloReply) (s : ShookHands given over opened connection (start_of over old first) (checkpoint (point new after) last) reply) → ReachedGiven given (handshake_plan wanted) s.script.greeting (point old id) (point new after)
   handshake_wanted connection old new after first last reply s =
       let greeting = s.script.greeting in
-      handshake_reached wanted greeting old s.middle.state new s.middle.id after (hello_reached greeting old s.middle.state id s.middle.id s.hello) (login_reached greeting s.middle.state new s.middle.id after s.login)
-
-  shook_login_costs : {given : List Given} (connection : Connection) (old new : State) (after : ℤ) (first last : Ledgers) (reply : HelloReply) (s : ShookHands given over opened connection (start_of over old first) (checkpoint (point new after) last) reply) → LoginCosts wanted s.script.greeting (checkpoint s.middle first) (checkpoint (point new after) last)
-  shook_login_costs connection old new after first last reply s = costs_alike (pending_over opened) pending options credential nonces id id s.script.greeting (checkpoint s.middle first) (checkpoint (point new after) last) s.costs
+      handshake_reached wanted greeting old s.middle.state new s.middle.id after (hello_reached greeting old s.middle.state id s.middle.id s.hello) s.login
 
   -- what was derived and kept
   pub shook_costs : {given : List Given} (connection : Connection) (old new : State) (after : ℤ) (first last : Ledgers) (reply : HelloReply) (s : ShookHands given over opened connection (start_of over old first) (checkpoint (point new after) last) reply) → HandshakeCosts wanted s.script.greeting (checkpoint (point old id) first) (checkpoint (point new after) last)
   shook_costs connection old new after first last reply s = record {
     middle = s.middle;
     hello = hello_reached s.script.greeting old s.middle.state id s.middle.id s.hello;
-    login = shook_login_costs connection old new after first last reply s;
+    login = s.costs;
   }
 
   -- is the connection that is ready for commands, where a service that has to be named is
@@ -119,8 +112,8 @@ module _ (pending : PendingConnection) (options : HandshakerOptions) (credential
         hello = hello_reached s.greeting old s.middle.state id s.middle.id s.hello;
         generation_is = refl;
         stopped = inl (record {
-          login = (kept_fault connection, stopped_alike (pending_over opened) pending options credential nonces id id s.greeting kind s.middle.state new s.middle.id after s.login);
-          costs = stopped_login_costs_alike (pending_over opened) pending options credential nonces id id s.greeting kind (checkpoint s.middle first) (checkpoint (point new after) last) s.costs;
+          login = (kept_fault connection, s.login);
+          costs = s.costs;
         });
       })
 
@@ -140,8 +133,8 @@ module _ (pending : PendingConnection) (options : HandshakerOptions) (credential
         hello = hello_reached s.script.greeting old s.middle.state id s.middle.id s.hello;
         generation_is = refl;
         stopped = inr (record {
-          login = login_reached s.script.greeting s.middle.state new s.middle.id after s.login;
-          costs = shook_login_costs connection old new after first last reply s;
+          login = s.login;
+          costs = s.costs;
           unnamed = unnamed;
         });
       })

@@ -73,33 +73,33 @@ one_after_hello address reply = one_unless _ _ (one_document_row reply) (one_rea
 
 pub one_hello : (setup : Setup) → HasOneTurn (hello_plan setup)
 unfolding hello_plan
-one_hello setup = one_unless _ _ (one_hello_row setup.credential) (one_saying (hello_said setup) (after_hello setup.pending.address) (one_after_hello setup.pending.address))
+one_hello setup = one_unless _ _ (one_hello_row setup.login.credential) (one_saying (hello_said setup.login) (after_hello setup.pending.address) (one_after_hello setup.pending.address))
 
 -- where the hello's plan ended, the hello could be made, it was said, and its reply greets
 pub record IsGreeted (setup : Setup) (events : List Event) (greeting : Greeting) : Type 0 where
-  pub made : HasNone (HelloRow setup.credential)
+  pub made : HasNone (HelloRow setup.login.credential)
   pub reply : List ℕ
-  pub events_are : events ≡ exchanged (hello_said setup) reply ∷ []
+  pub events_are : events ≡ exchanged (hello_said setup.login) reply ∷ []
   pub greets : Greets setup.pending.address reply greeting
 
 pub greeted : (setup : Setup) (events : List Event) (greeting : Greeting) → PlanEnds (hello_plan setup) events greeting → IsGreeted setup events greeting
 unfolding hello_plan
 greeted setup events greeting ended =
     let address = setup.pending.address in
-    let made = ends_unless (HelloRow setup.credential) (saying (hello_said setup) (after_hello address)) events greeting ended in
-    let first = ends_saying (hello_said setup) (after_hello address) events greeting made.1 in
+    let made = ends_unless (HelloRow setup.login.credential) (saying (hello_said setup.login) (after_hello address)) events greeting ended in
+    let first = ends_saying (hello_said setup.login) (after_hello address) events greeting made.1 in
     let judged = ends_unless (DocumentRow first.reply) (reading (Greets address first.reply) ending) first.more greeting first.rest in
     let read = ends_reading (Greets address first.reply) ending first.more greeting (one_greeting address first.reply) judged.1 in
     let last = ends_ending read.0 first.more greeting read.2 in
     record {
       made = made.0;
       reply = first.reply;
-      events_are = first.events_are ∙ ap (λ x. exchanged (hello_said setup) first.reply ∷ x) last.0;
+      events_are = first.events_are ∙ ap (λ x. exchanged (hello_said setup.login) first.reply ∷ x) last.0;
       greets = subst (Greets address first.reply) (sym last.1) read.1;
     }
 
 -- a hello that could be made and was said, and a reply that greets, are an end of it
-pub greeting_ends : (setup : Setup) (reply : List ℕ) (greeting : Greeting) → HasNone (HelloRow setup.credential) → IsSendable (hello_said setup) → Greets setup.pending.address reply greeting → PlanEnds (hello_plan setup) (exchanged (hello_said setup) reply ∷ []) greeting
+pub greeting_ends : (setup : Setup) (reply : List ℕ) (greeting : Greeting) → HasNone (HelloRow setup.login.credential) → IsSendable (hello_said setup.login) → Greets setup.pending.address reply greeting → PlanEnds (hello_plan setup) (exchanged (hello_said setup.login) reply ∷ []) greeting
 unfolding hello_plan
 greeting_ends setup reply greeting made sendable greets = record {
   follows = (inr (made, refl), sendable, tt);

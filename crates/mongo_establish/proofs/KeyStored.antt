@@ -31,7 +31,7 @@ use Rattle.mongo_establish.specs.declared.establisher.HandshakePhase.{HandshakeP
 use Rattle.mongo_establish.specs.declared.establisher.HandshakePhase.TheVariants.{PreHello, PostHello}
 use Rattle.mongo_establish.specs.declared.establisher.PooledConnection.{PooledConnection}
 use Rattle.mongo_establish.specs.declared.generation.PoolGeneration.{PoolGeneration}
-use Rattle.mongo_establish.specs.Setup.{Setup, start_of}
+use Rattle.mongo_establish.specs.Setup.{LoginSetup, Setup, start_of}
 use Rattle.mongo_establish.specs.Costs.{AcceptedCosts, StoppedCosts, LoginCostsOf, StoppedLoginCostsOf, HandshakeCosts}
 use Rattle.mongo_establish.specs.Derivation.{derivation_by, derivation_of, login_derivation, derivation_plan}
 use Rattle.mongo_establish.specs.Established.{StoppedHandshake}
@@ -73,21 +73,21 @@ closing_takes handed kind old new is =
       | inr memory ↦ inr (memory.0, record { counts = memory.1; entries = is.entries })
     ]
 
-opening_reached : (version : ScramVersion) (mechanism : AuthMechanism) (setup : Setup) (credential : Credential) (greeting : Greeting) (c : Challenge) (old middle : State) (before between : ℤ) → HasNone (InvalidRow (speculative_reply setup greeting) mechanism credential)
+opening_reached : (version : ScramVersion) (mechanism : AuthMechanism) (setup : LoginSetup) (credential : Credential) (greeting : Greeting) (c : Challenge) (old middle : State) (before between : ℤ) → HasNone (InvalidRow (speculative_reply setup greeting) mechanism credential)
     → Reached (opening (scram_handed_by version setup credential greeting)) c (point old before) (point middle between) → Reached (derivation_by (Some (Scram version)) mechanism setup credential greeting) (Some (key_by (scram_handed_by version setup credential greeting) c)) (point old before) (point middle between)
 unfolding derivation_by
 opening_reached version mechanism setup credential greeting c old middle before between none r =
     let handed = scram_handed_by version setup credential greeting in
     reached_unless _ _ (Some (key_by handed c)) old middle before between none (reached_both (opening handed) (λ challenge. ending (Some (key_by handed challenge))) c (Some (key_by handed c)) old middle middle before between between r (reached_ending (Some (key_by handed c)) middle between))
 
-opening_stopped : (version : ScramVersion) (mechanism : AuthMechanism) (setup : Setup) (credential : Credential) (greeting : Greeting) (kind : ErrorKind) (old new : State) (before after : ℤ) → HasNone (InvalidRow (speculative_reply setup greeting) mechanism credential)
+opening_stopped : (version : ScramVersion) (mechanism : AuthMechanism) (setup : LoginSetup) (credential : Credential) (greeting : Greeting) (kind : ErrorKind) (old new : State) (before after : ℤ) → HasNone (InvalidRow (speculative_reply setup greeting) mechanism credential)
     → Stopped (opening (scram_handed_by version setup credential greeting)) kind (point old before) (point new after) → Stopped (derivation_by (Some (Scram version)) mechanism setup credential greeting) kind (point old before) (point new after)
 unfolding derivation_by
 opening_stopped version mechanism setup credential greeting kind old new before after none s =
     let handed = scram_handed_by version setup credential greeting in
     (s.0, stopped_unless _ _ kind old new before after none (stopped_first (opening handed) (λ challenge. ending (Some (key_by handed challenge))) kind old new before after s.1))
 
-module _ (version : ScramVersion) (mechanism : AuthMechanism) (setup : Setup) (credential : Credential) (greeting : Greeting) (none : HasNone (InvalidRow (speculative_reply setup greeting) mechanism credential)) where
+module _ (version : ScramVersion) (mechanism : AuthMechanism) (setup : LoginSetup) (credential : Credential) (greeting : Greeting) (none : HasNone (InvalidRow (speculative_reply setup greeting) mechanism credential)) where
   abbrev handed : Handed
   handed = scram_handed_by version setup credential greeting
 
@@ -143,20 +143,20 @@ nothing_taken old new nothing = record { key = None; middle = old.point; reached
 nothing_spent : (kind : ErrorKind) (old new : Checkpoint) → CostsNothing old.ledgers new.ledgers → KeySpent (ending None) kind old new
 nothing_spent kind old new nothing = inr (record { key = None; middle = old.point; reached = reached_ending None old.point.state old.point.id; takes = inl nothing })
 
-key_taken_by : (conversation : Option Conversation) (mechanism : AuthMechanism) (setup : Setup) (credential : Credential) (greeting : Greeting) (old new : Checkpoint) → (IsScram conversation → HasNone (InvalidRow (speculative_reply setup greeting) mechanism credential))
+key_taken_by : (conversation : Option Conversation) (mechanism : AuthMechanism) (setup : LoginSetup) (credential : Credential) (greeting : Greeting) (old new : Checkpoint) → (IsScram conversation → HasNone (InvalidRow (speculative_reply setup greeting) mechanism credential))
     → AcceptedCosts (scram_in conversation) setup credential greeting old new → KeyStored (derivation_by conversation mechanism setup credential greeting) old new
 unfolding derivation_by
 key_taken_by (Some (Scram version)) mechanism setup credential greeting old new none c = scram_takes version mechanism setup credential greeting (none tt) c.buffer old new c.accepted
 key_taken_by conversation mechanism setup credential greeting old new none c = nothing_taken old new c
 
-spent_by : (conversation : Option Conversation) (mechanism : AuthMechanism) (setup : Setup) (credential : Credential) (greeting : Greeting) (kind : ErrorKind) (old new : Checkpoint) → (IsScram conversation → HasNone (InvalidRow (speculative_reply setup greeting) mechanism credential))
+spent_by : (conversation : Option Conversation) (mechanism : AuthMechanism) (setup : LoginSetup) (credential : Credential) (greeting : Greeting) (kind : ErrorKind) (old new : Checkpoint) → (IsScram conversation → HasNone (InvalidRow (speculative_reply setup greeting) mechanism credential))
     → StoppedCosts (scram_in conversation) setup credential greeting kind old new → KeySpent (derivation_by conversation mechanism setup credential greeting) kind old new
 unfolding derivation_by
 spent_by (Some (Scram version)) mechanism setup credential greeting kind old new none c = scram_spends version mechanism setup credential greeting (none tt) kind old new c
 spent_by conversation mechanism setup credential greeting kind old new none c = nothing_spent kind old new c
 
 -- the mechanism doesn't take the credential
-row_spent : (conversation : Option Conversation) (mechanism : AuthMechanism) (setup : Setup) (credential : Credential) (greeting : Greeting) (kind : ErrorKind) (old new : Checkpoint) → (IsScram conversation → HasNone (InvalidRow (speculative_reply setup greeting) mechanism credential))
+row_spent : (conversation : Option Conversation) (mechanism : AuthMechanism) (setup : LoginSetup) (credential : Credential) (greeting : Greeting) (kind : ErrorKind) (old new : Checkpoint) → (IsScram conversation → HasNone (InvalidRow (speculative_reply setup greeting) mechanism credential))
     → InvalidRow (speculative_reply setup greeting) mechanism credential kind → CostsNothing old.ledgers new.ledgers → KeySpent (derivation_by conversation mechanism setup credential greeting) kind old new
 unfolding derivation_by
 row_spent (Some (Scram version)) mechanism setup credential greeting kind old new none row nothing = absurd (none tt kind row)
@@ -164,14 +164,14 @@ row_spent conversation mechanism setup credential greeting kind old new none row
 
 -- ---- a login
 
-login_taken : (who : Option Credential) (setup : Setup) (greeting : Greeting) (old new : Checkpoint) → HasNone (HelloRow who) → LoginCostsOf who setup greeting old new → KeyStored (derivation_of who setup greeting) old new
+login_taken : (who : Option Credential) (setup : LoginSetup) (greeting : Greeting) (old new : Checkpoint) → HasNone (HelloRow who) → LoginCostsOf who setup greeting old new → KeyStored (derivation_of who setup greeting) old new
 login_taken None setup greeting old new made c = nothing_taken old new c
 login_taken (Some credential) setup greeting old new made c =
     let none = taken credential (speculative_reply setup greeting) greeting.description c.mechanism c.is_mechanism made in
     taken_more (derivation_by (conversation_of c.mechanism) c.mechanism setup credential greeting) (derivation_of (Some credential) setup greeting) old new (λ past turn h. (c.mechanism, c.is_mechanism, h))
     (key_taken_by (conversation_of c.mechanism) c.mechanism setup credential greeting old new none c.costs)
 
-login_spent : (who : Option Credential) (setup : Setup) (greeting : Greeting) (kind : ErrorKind) (old new : Checkpoint) → HasNone (HelloRow who) → StoppedLoginCostsOf who setup greeting kind old new → KeySpent (derivation_of who setup greeting) kind old new
+login_spent : (who : Option Credential) (setup : LoginSetup) (greeting : Greeting) (kind : ErrorKind) (old new : Checkpoint) → HasNone (HelloRow who) → StoppedLoginCostsOf who setup greeting kind old new → KeySpent (derivation_of who setup greeting) kind old new
 login_spent None setup greeting kind old new made c = nothing_spent kind old new c
 login_spent (Some credential) setup greeting kind old new made c =
     let none = taken credential (speculative_reply setup greeting) greeting.description c.mechanism c.is_mechanism made in
@@ -188,15 +188,15 @@ who_made true credential made = made
 who_made false credential made = λ kind row. row
 
 -- a hello that was answered could be made
-hello_made : (setup : Setup) (greeting : Greeting) (old middle : State) (before between : ℤ) → Reached (hello_plan setup) greeting (point old before) (point middle between) → HasNone (HelloRow (logging_in setup greeting))
+hello_made : (setup : Setup) (greeting : Greeting) (old middle : State) (before between : ℤ) → Reached (hello_plan setup) greeting (point old before) (point middle between) → HasNone (HelloRow (logging_in setup.login greeting))
 hello_made setup greeting old middle before between r =
-    who_made (holds_users greeting.description.initial_server_type) setup.credential (greeted setup r.events greeting (record { follows = r.talked.follows; answer_is = r.answer_is })).made
+    who_made (holds_users greeting.description.initial_server_type) setup.login.credential (greeted setup r.events greeting (record { follows = r.talked.follows; answer_is = r.answer_is })).made
 
 pub handshake_taken : (setup : Setup) (greeting : Greeting) (old new : Checkpoint) → HandshakeCosts setup greeting old new → KeyStored (derivation_plan setup) old new
 unfolding derivation_plan login_derivation
 handshake_taken setup greeting old new h =
-    taken_after (hello_plan setup) (login_derivation setup) greeting h.middle.state h.middle.id old new h.hello
-    (login_taken (logging_in setup greeting) setup greeting (checkpoint h.middle old.ledgers) new (hello_made setup greeting old.point.state h.middle.state old.point.id h.middle.id h.hello) h.login)
+    taken_after (hello_plan setup) (login_derivation setup.login) greeting h.middle.state h.middle.id old new h.hello
+    (login_taken (logging_in setup.login greeting) setup.login greeting (checkpoint h.middle old.ledgers) new (hello_made setup greeting old.point.state h.middle.state old.point.id h.middle.id h.hello) h.login)
 
 -- a login was accepted, and its server had named no service
 abbrev pub UnnamedCosts : Setup → ErrorKind → Checkpoint → Checkpoint → Type 0
@@ -206,12 +206,12 @@ UnnamedCosts setup kind old new = (kind ≡ IncompatibleServer) × ((greeting : 
 pub establishment_spent : (given : List Given) (phase : HandshakePhase) (setup : Setup) (kind : ErrorKind) (old new : State) (after : ℤ) (first last : Ledgers) → StoppedIn given phase setup kind (start_of setup old first) (checkpoint (point new after) last)
     → KeySpent (derivation_plan setup) kind (checkpoint (point old setup.first_id) first) (checkpoint (point new after) last) ⊎ UnnamedCosts setup kind (checkpoint (point old setup.first_id) first) (checkpoint (point new after) last)
 unfolding derivation_plan login_derivation
-establishment_spent given (PreHello generation) setup kind old new after first last (asked, is, stopped, nothing) = inl (inl (record { stopped = (stopped.0, stopped_first (hello_plan setup) (login_derivation setup) kind old new setup.first_id after stopped.1); nothing = nothing }))
+establishment_spent given (PreHello generation) setup kind old new after first last (asked, is, stopped, nothing) = inl (inl (record { stopped = (stopped.0, stopped_first (hello_plan setup) (login_derivation setup.login) kind old new setup.first_id after stopped.1); nothing = nothing }))
 establishment_spent given (PostHello generation) setup kind old new after first last s =
     let made = hello_made setup s.greeting old s.middle.state setup.first_id s.middle.id s.hello in
     elim s.stopped [
-      | inl l ↦ inl (spent_after (hello_plan setup) (login_derivation setup) s.greeting kind s.middle.state s.middle.id (checkpoint (point old setup.first_id) first) (checkpoint (point new after) last) s.hello
-          (login_spent (logging_in setup s.greeting) setup s.greeting kind (checkpoint s.middle first) (checkpoint (point new after) last) made l.costs))
+      | inl l ↦ inl (spent_after (hello_plan setup) (login_derivation setup.login) s.greeting kind s.middle.state s.middle.id (checkpoint (point old setup.first_id) first) (checkpoint (point new after) last) s.hello
+          (login_spent (logging_in setup.login s.greeting) setup.login s.greeting kind (checkpoint s.middle first) (checkpoint (point new after) last) made l.costs))
       | inr u ↦ inr (u.unnamed.0, (s.greeting, record { middle = s.middle; hello = s.hello; login = u.costs }))
     ]
 

@@ -19,7 +19,7 @@ use Rattle.mongo_sasl.proofs.AtOnce.{at_once_keeping}
 use Rattle.mongo_scram.specs.Costs.{Checkpoint, CostsNothing}
 use Rattle.mongo_establish.specs.declared.conversation.Conversation.{Conversation}
 use Rattle.mongo_establish.specs.declared.answered_round.AnsweredRound.{AnsweredRound}
-use Rattle.mongo_establish.specs.Setup.{Setup}
+use Rattle.mongo_establish.specs.Setup.{LoginSetup}
 use Rattle.mongo_establish.specs.Costs.{AcceptedCosts, StoppedCosts, LoginCostsOf, LoginCosts, StoppedLoginCostsOf, StoppedLoginCosts}
 use Rattle.mongo_establish.specs.First.{IsRoundIn, IsOwnRound, IsRoundBy}
 use Rattle.mongo_establish.specs.Greeting.{Greeting}
@@ -33,24 +33,24 @@ use Rattle.mongo_establish.proofs.Validated.{credential_no_row}
 -- ---- who logs in
 
 -- without somebody who logs in, a login ends at once
-pub nobody : (setup : Setup) (greeting : Greeting) (old : State) (before : ℤ) → logging_in setup greeting ≡ None → Reached (login_plan setup greeting) greeting (point old before) (point old before)
+pub nobody : (setup : LoginSetup) (greeting : Greeting) (old : State) (before : ℤ) → logging_in setup greeting ≡ None → Reached (login_plan setup greeting) greeting (point old before) (point old before)
 unfolding login_plan
 nobody setup greeting old before is = subst (λ who. Reached (login_by who setup greeting) greeting (point old before) (point old before)) (sym is) (reached_ending greeting old before)
 
-pub nobody_costs : (setup : Setup) (greeting : Greeting) (old : Checkpoint) → logging_in setup greeting ≡ None → CostsNothing old.ledgers old.ledgers → LoginCosts setup greeting old old
+pub nobody_costs : (setup : LoginSetup) (greeting : Greeting) (old : Checkpoint) → logging_in setup greeting ≡ None → CostsNothing old.ledgers old.ledgers → LoginCosts setup greeting old old
 nobody_costs setup greeting old is nothing = subst (λ who. LoginCostsOf who setup greeting old old) (sym is) nothing
 
 unasked : (holds : Bool) (credential : Option Credential) → credential ≡ None → ◌≡◌ {A = Option Credential} (if holds then credential else None) None
 unasked true credential none = none
 unasked false credential none = refl
 
-pub no_credential : (setup : Setup) (greeting : Greeting) → setup.credential ≡ None → logging_in setup greeting ≡ None
+pub no_credential : (setup : LoginSetup) (greeting : Greeting) → setup.credential ≡ None → logging_in setup greeting ≡ None
 no_credential setup greeting none = unasked (holds_users greeting.description.initial_server_type) setup.credential none
 
-pub no_users : (setup : Setup) (greeting : Greeting) → holds_users greeting.description.initial_server_type ≡ false → logging_in setup greeting ≡ None
+pub no_users : (setup : LoginSetup) (greeting : Greeting) → holds_users greeting.description.initial_server_type ≡ false → logging_in setup greeting ≡ None
 no_users setup greeting none = ap (λ (holds : Bool). let who : Option Credential = if holds then setup.credential else None in who) none
 
-a_user : (setup : Setup) (greeting : Greeting) (credential : Credential) → holds_users greeting.description.initial_server_type ≡ true → setup.credential ≡ Some credential → logging_in setup greeting ≡ Some credential
+a_user : (setup : LoginSetup) (greeting : Greeting) (credential : Credential) → holds_users greeting.description.initial_server_type ≡ true → setup.credential ≡ Some credential → logging_in setup greeting ≡ Some credential
 a_user setup greeting credential holds is = ap (λ (b : Bool). let who : Option Credential = if b then setup.credential else None in who) holds ∙ is
 
 -- ---- by which mechanism
@@ -106,25 +106,25 @@ takes_it (Some reply) speculated mechanism credential is taken = tt
 
 -- ---- a mechanism's plan
 
-validated_reached : {given : List Given} (mechanism : AuthMechanism) (conversation : Conversation) (setup : Setup) (credential : Credential) (greeting : Greeting) (old new : State) (before after : ℤ) → HasConversation mechanism conversation → HasNone (InvalidRow (speculative_reply setup greeting) mechanism credential)
+validated_reached : {given : List Given} (mechanism : AuthMechanism) (conversation : Conversation) (setup : LoginSetup) (credential : Credential) (greeting : Greeting) (old new : State) (before after : ℤ) → HasConversation mechanism conversation → HasNone (InvalidRow (speculative_reply setup greeting) mechanism credential)
     → ReachedGiven given (conversation_plan conversation setup credential greeting) greeting (point old before) (point new after) → ReachedGiven given (mechanism_plan mechanism setup credential greeting) greeting (point old before) (point new after)
 unfolding mechanism_plan
 validated_reached mechanism conversation setup credential greeting old new before after has none r =
     reached_reading (HasConversation mechanism) (validated mechanism setup credential greeting) conversation greeting old new before after has (reached_unless _ _ greeting old new before after none r)
 
-validated_stopped : {given : List Given} {kept : Option ErrorKind} (mechanism : AuthMechanism) (conversation : Conversation) (setup : Setup) (credential : Credential) (greeting : Greeting) (kind : ErrorKind) (old new : State) (before after : ℤ) → HasConversation mechanism conversation → HasNone (InvalidRow (speculative_reply setup greeting) mechanism credential)
+validated_stopped : {given : List Given} {kept : Option ErrorKind} (mechanism : AuthMechanism) (conversation : Conversation) (setup : LoginSetup) (credential : Credential) (greeting : Greeting) (kind : ErrorKind) (old new : State) (before after : ℤ) → HasConversation mechanism conversation → HasNone (InvalidRow (speculative_reply setup greeting) mechanism credential)
     → StoppedGiven given (conversation_plan conversation setup credential greeting) kind (point old before) (point new after) kept → StoppedGiven given (mechanism_plan mechanism setup credential greeting) kind (point old before) (point new after) kept
 unfolding mechanism_plan
 validated_stopped mechanism conversation setup credential greeting kind old new before after has none s =
     stopped_reading (HasConversation mechanism) (validated mechanism setup credential greeting) conversation kind old new before after has (stopped_unless _ _ kind old new before after none s)
 
-row_refused : (mechanism : AuthMechanism) (conversation : Conversation) (setup : Setup) (credential : Credential) (greeting : Greeting) (kind : ErrorKind) → HasConversation mechanism conversation → InvalidRow (speculative_reply setup greeting) mechanism credential kind → RefusedAtOnce (mechanism_plan mechanism setup credential greeting) kind
+row_refused : (mechanism : AuthMechanism) (conversation : Conversation) (setup : LoginSetup) (credential : Credential) (greeting : Greeting) (kind : ErrorKind) → HasConversation mechanism conversation → InvalidRow (speculative_reply setup greeting) mechanism credential kind → RefusedAtOnce (mechanism_plan mechanism setup credential greeting) kind
 unfolding mechanism_plan
 row_refused mechanism conversation setup credential greeting kind has row = inl (conversation, has, inl row)
 
 -- ---- a login
 
-module _ (setup : Setup) (greeting : Greeting) (credential : Credential) (round : Option AnsweredRound) (mechanism : AuthMechanism) (who : setup.credential ≡ Some credential) (holds : holds_users greeting.description.initial_server_type ≡ true) (went : IsRoundBy (conversation_of (mechanism_before credential.mechanism)) credential setup greeting round)
+module _ (setup : LoginSetup) (greeting : Greeting) (credential : Credential) (round : Option AnsweredRound) (mechanism : AuthMechanism) (who : setup.credential ≡ Some credential) (holds : holds_users greeting.description.initial_server_type ≡ true) (went : IsRoundBy (conversation_of (mechanism_before credential.mechanism)) credential setup greeting round)
     (negotiated : (reply : Option (List ℕ)) → is_some reply ≡ is_some round → IsMechanism credential.mechanism reply greeting.description mechanism) (conversation : Conversation) (has : HasConversation mechanism conversation) where
   by_mechanism : IsMechanism credential.mechanism (speculative_reply setup greeting) greeting.description mechanism
   by_mechanism = negotiated (speculative_reply setup greeting) (sym went.there)

@@ -14,7 +14,7 @@ use Rattle.mongo_establish.specs.declared.conversation.Conversation.{Conversatio
 use Rattle.mongo_establish.specs.declared.answered_round.AnsweredRound.{AnsweredRound}
 use Rattle.mongo_establish.specs.declared.login_state.Nonces.{Nonces}
 use Rattle.mongo_establish.specs.declared.options.HandshakerOptions.{HandshakerOptions}
-use Rattle.mongo_establish.specs.Setup.{Setup, setup_over}
+use Rattle.mongo_establish.specs.Setup.{LoginSetup, login_setup}
 use Rattle.mongo_establish.specs.First.{IsRoundBy, IsRoundOf}
 use Rattle.mongo_establish.specs.Greeting.{Greeting}
 use Rattle.mongo_establish.specs.Login.{holds_users, IsMechanism, InvalidRow}
@@ -31,7 +31,7 @@ no_row : (conversation : Conversation) → Some conversation ≡ None → ⊥
 no_row conversation is = cc
 
 -- the server holds no users
-pub empty_server : (setup : Setup) (description : StreamDescription) (held : Option StreamDescription) (round : Option AnsweredRound) (old : Checkpoint) → held ≡ Some description → holds_users description.initial_server_type ≡ false → CostsNothing old.ledgers old.ledgers → LogsIn [] setup held round old old
+pub empty_server : (setup : LoginSetup) (description : StreamDescription) (held : Option StreamDescription) (round : Option AnsweredRound) (old : Checkpoint) → held ≡ Some description → holds_users description.initial_server_type ≡ false → CostsNothing old.ledgers old.ledgers → LogsIn [] setup held round old old
 empty_server setup description held round old is empty nothing =
     let none : (greeting : Greeting) → held ≡ Some greeting.description → holds_users greeting.description.initial_server_type ≡ false =
     λ greeting described. subst (λ d. holds_users d.initial_server_type ≡ false) (same_description description greeting.description (sym is ∙ described)) empty in
@@ -41,7 +41,7 @@ empty_server setup description held round old is empty nothing =
     }
 
 -- there is no credential
-pub no_login : (setup : Setup) (held : Option StreamDescription) (round : Option AnsweredRound) (old : Checkpoint) → setup.credential ≡ None → CostsNothing old.ledgers old.ledgers → LogsIn [] setup held round old old
+pub no_login : (setup : LoginSetup) (held : Option StreamDescription) (round : Option AnsweredRound) (old : Checkpoint) → setup.credential ≡ None → CostsNothing old.ledgers old.ledgers → LogsIn [] setup held round old old
 no_login setup held round old none nothing = record {
   reached = λ greeting described r. nobody setup greeting old.point.state old.point.id (no_credential setup greeting none);
   costs = λ greeting described r. nobody_costs setup greeting old (no_credential setup greeting none) nothing;
@@ -52,10 +52,10 @@ reply_like : (round : Option AnsweredRound) → (reply : Option (List ℕ)) × (
 reply_like None = (None, refl)
 reply_like (Some round) = (Some [], refl)
 
-module _ (opened : Connection) (options : HandshakerOptions) (given : Option Credential) (nonces : Nonces) (id : ℤ) (credential : Credential) (who : given ≡ Some credential) (round : Option AnsweredRound) (mechanism : AuthMechanism) (description : StreamDescription) (is : opened.stream_description ≡ Some description)
+module _ (opened : Connection) (options : HandshakerOptions) (given : Option Credential) (nonces : Nonces) (credential : Credential) (who : given ≡ Some credential) (round : Option AnsweredRound) (mechanism : AuthMechanism) (description : StreamDescription) (is : opened.stream_description ≡ Some description)
     (at : (holds_users description.initial_server_type ≡ true) × ((reply : Option (List ℕ)) → is_some reply ≡ is_some round → IsMechanism credential.mechanism reply description mechanism)) (spoken : SpeaksFor given) (made : HasNone (HelloRow given)) where
-  abbrev setup : Setup
-  setup = setup_over opened options given nonces id
+  abbrev setup : LoginSetup
+  setup = login_setup options given nonces
 
   abbrev held : Option StreamDescription
   held = opened.stream_description
@@ -95,8 +95,8 @@ module _ (opened : Connection) (options : HandshakerOptions) (given : Option Cre
     abbrev by_it : (greeting : Greeting) → held ≡ Some greeting.description → IsRoundOf setup.credential setup greeting round → IsRoundBy (Some conversation) credential setup greeting round
     by_it greeting described r = went_by setup greeting credential round mechanism who (users greeting described) (went greeting r) (greeted_mechanism greeting described) conversation has
 
-    abbrev this : Option Credential → Setup
-    this c = setup_over opened options c nonces id
+    abbrev this : Option Credential → LoginSetup
+    this c = login_setup options c nonces
 
     here : {granted : List Given} (r : Result (Unit {0}) Error) (left : Connection) (old new : Checkpoint) → Converses granted r conversation (this (Some credential)) credential round opened left old new → Converses granted r conversation setup credential round opened left old new
     here {granted = granted} r left old new h = subst (λ c. Converses granted r conversation (this c) credential round opened left old new) (sym who) h

@@ -8,7 +8,7 @@ use Rattle.mongo_command.proofs.Ends.{PlanEnds, ends_ending, ends_unless, ends_r
 use Rattle.mongo_sasl.specs.declared.credential.Credential.{Credential}
 use Rattle.mongo_sasl.specs.declared.mechanism.AuthMechanism.{AuthMechanism}
 use Rattle.mongo_sasl.proofs.LoginEvents.{replies_in, documents_in, AreWithin, LoginEnd, EndsBy}
-use Rattle.mongo_establish.specs.Setup.{Setup}
+use Rattle.mongo_establish.specs.Setup.{LoginSetup}
 use Rattle.mongo_establish.specs.Greeting.{Greeting}
 use Rattle.mongo_establish.specs.Login.{logging_in, speculative_reply, IsMechanism, InvalidRow}
 use Rattle.mongo_establish.specs.Plan.{conversation_plan, validated, mechanism_plan, login_by, login_plan}
@@ -49,7 +49,7 @@ reading_end reads plan x greeting given commands replies is l = record {
 
 -- ---- a mechanism
 
-mechanism_ended : (mechanism : AuthMechanism) (setup : Setup) (credential : Credential) (greeting answer : Greeting) (events : List Event) → PlanEnds (mechanism_plan mechanism setup credential greeting) events answer → EndsBy (IsLoginBy mechanism setup credential greeting) greeting (greeted_maximum greeting) events answer
+mechanism_ended : (mechanism : AuthMechanism) (setup : LoginSetup) (credential : Credential) (greeting answer : Greeting) (events : List Event) → PlanEnds (mechanism_plan mechanism setup credential greeting) events answer → EndsBy (IsLoginBy mechanism setup credential greeting) greeting (greeted_maximum greeting) events answer
 unfolding mechanism_plan
 mechanism_ended mechanism setup credential greeting answer events e =
     let reply = speculative_reply setup greeting in
@@ -58,7 +58,7 @@ mechanism_ended mechanism setup credential greeting answer events e =
     let ended = (joins read.0 setup credential greeting).ended events answer passed.1 in
     (ended.0, record { taken = no_row_taken reply mechanism read.0 credential read.1 passed.0; conversation = read.0; has_conversation = read.1; holds = ended.1 }, ended.2)
 
-mechanism_ends : (mechanism : AuthMechanism) (setup : Setup) (credential : Credential) (greeting : Greeting) (given : List Given) (commands replies : List (List ℕ)) → IsLoginBy mechanism setup credential greeting given commands replies → LoginEnd (mechanism_plan mechanism setup credential greeting) greeting (greeted_maximum greeting) given commands replies
+mechanism_ends : (mechanism : AuthMechanism) (setup : LoginSetup) (credential : Credential) (greeting : Greeting) (given : List Given) (commands replies : List (List ℕ)) → IsLoginBy mechanism setup credential greeting given commands replies → LoginEnd (mechanism_plan mechanism setup credential greeting) greeting (greeted_maximum greeting) given commands replies
 unfolding mechanism_plan
 mechanism_ends mechanism setup credential greeting given commands replies is =
     reading_end (HasConversation mechanism) (validated mechanism setup credential greeting) is.conversation greeting given commands replies is.has_conversation
@@ -66,7 +66,7 @@ mechanism_ends mechanism setup credential greeting given commands replies is =
 
 -- ---- a login
 
-login_by_ended : (who : Option Credential) (setup : Setup) (greeting answer : Greeting) (events : List Event) → PlanEnds (login_by who setup greeting) events answer → EndsBy (IsLoginOf who setup greeting) greeting (greeted_maximum greeting) events answer
+login_by_ended : (who : Option Credential) (setup : LoginSetup) (greeting answer : Greeting) (events : List Event) → PlanEnds (login_by who setup greeting) events answer → EndsBy (IsLoginOf who setup greeting) greeting (greeted_maximum greeting) events answer
 login_by_ended None setup greeting answer events e =
     let last = ends_ending greeting events answer e in
     (last.1, (ap given_in last.0, ap documents_in last.0, ap replies_in last.0), subst (AreWithin (greeted_maximum greeting)) (sym last.0) tt)
@@ -76,15 +76,15 @@ login_by_ended (Some credential) setup greeting answer events e =
     let ended = mechanism_ended read.0 setup credential greeting answer events read.2 in
     (ended.0, (read.0, read.1, ended.1), ended.2)
 
-pub login_ended : (setup : Setup) (greeting answer : Greeting) (events : List Event) → PlanEnds (login_plan setup greeting) events answer → (answer ≡ greeting) × IsLogin setup greeting (given_in events) (documents_in events) (replies_in events) × AreWithin (greeted_maximum greeting) events
+pub login_ended : (setup : LoginSetup) (greeting answer : Greeting) (events : List Event) → PlanEnds (login_plan setup greeting) events answer → (answer ≡ greeting) × IsLogin setup greeting (given_in events) (documents_in events) (replies_in events) × AreWithin (greeted_maximum greeting) events
 unfolding login_plan
 login_ended setup greeting answer events e = login_by_ended (logging_in setup greeting) setup greeting answer events e
 
-login_by_ends : (who : Option Credential) (setup : Setup) (greeting : Greeting) (given : List Given) (commands replies : List (List ℕ)) → IsLoginOf who setup greeting given commands replies → LoginEnd (login_by who setup greeting) greeting (greeted_maximum greeting) given commands replies
+login_by_ends : (who : Option Credential) (setup : LoginSetup) (greeting : Greeting) (given : List Given) (commands replies : List (List ℕ)) → IsLoginOf who setup greeting given commands replies → LoginEnd (login_by who setup greeting) greeting (greeted_maximum greeting) given commands replies
 login_by_ends None setup greeting given commands replies is = record { events = []; given_is = is.0; commands_are = is.1; replies_are = is.2; within = tt; ends = λ sendable. record { follows = tt; answer_is = refl } }
 login_by_ends (Some credential) setup greeting given commands replies is =
     reading_end (IsMechanism credential.mechanism (speculative_reply setup greeting) greeting.description) (λ mechanism. mechanism_plan mechanism setup credential greeting) is.0 greeting given commands replies is.1 (mechanism_ends is.0 setup credential greeting given commands replies is.2)
 
-pub login_ends : (setup : Setup) (greeting : Greeting) (given : List Given) (commands replies : List (List ℕ)) → IsLogin setup greeting given commands replies → LoginEnd (login_plan setup greeting) greeting (greeted_maximum greeting) given commands replies
+pub login_ends : (setup : LoginSetup) (greeting : Greeting) (given : List Given) (commands replies : List (List ℕ)) → IsLogin setup greeting given commands replies → LoginEnd (login_plan setup greeting) greeting (greeted_maximum greeting) given commands replies
 unfolding login_plan
 login_ends setup greeting given commands replies is = login_by_ends (logging_in setup greeting) setup greeting given commands replies is

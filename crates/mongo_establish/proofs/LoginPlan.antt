@@ -8,7 +8,7 @@ use Rattle.mongo_sasl.specs.declared.mechanism.AuthMechanism.{AuthMechanism}
 use Rattle.mongo_sasl.specs.declared.mechanism.AuthMechanism.TheVariants.{ScramSha1, ScramSha256}
 use Rattle.mongo_sasl.specs.Mechanism.{IsNegotiated}
 use Rattle.mongo_establish.specs.declared.conversation.Conversation.{Conversation}
-use Rattle.mongo_establish.specs.Setup.{Setup}
+use Rattle.mongo_establish.specs.Setup.{LoginSetup}
 use Rattle.mongo_establish.specs.Greeting.{Greeting}
 use Rattle.mongo_establish.specs.Login.{logging_in, speculative_reply, IsMechanism}
 use Rattle.mongo_establish.specs.Plan.{validated, mechanism_plan, login_by, login_plan}
@@ -44,17 +44,17 @@ one_conversation mechanism a b p q = same_conversation a b (sym p ∙ q)
 one_reading_it : {X A : Type 0} (reads : X → Type 0) (plan : X → Plan A) → IsOne reads → ((x : X) → reads x → HasOneTurn (plan x)) → HasOneTurn (reading reads plan)
 one_reading_it reads plan p q events a b x y = q y.0 y.1 events a b (subst (λ z. plan z events a) (p x.0 y.0 x.1 y.1) x.2) y.2
 
-one_mechanism_plan : (mechanism : AuthMechanism) (setup : Setup) (credential : Credential) (greeting : Greeting) → HasOneTurn (mechanism_plan mechanism setup credential greeting)
+one_mechanism_plan : (mechanism : AuthMechanism) (setup : LoginSetup) (credential : Credential) (greeting : Greeting) → HasOneTurn (mechanism_plan mechanism setup credential greeting)
 unfolding mechanism_plan
 one_mechanism_plan mechanism setup credential greeting =
     one_reading_it (HasConversation mechanism) (validated mechanism setup credential greeting) (one_conversation mechanism) (λ conversation has.
     one_unless _ _ (one_invalid_row (speculative_reply setup greeting) mechanism credential) (joins conversation setup credential greeting).one)
 
-one_login_by : (who : Option Credential) (setup : Setup) (greeting : Greeting) → HasOneTurn (login_by who setup greeting)
+one_login_by : (who : Option Credential) (setup : LoginSetup) (greeting : Greeting) → HasOneTurn (login_by who setup greeting)
 one_login_by None setup greeting = one_ending greeting
 one_login_by (Some credential) setup greeting =
     one_reading _ _ (one_mechanism credential.mechanism (speculative_reply setup greeting) greeting.description) (λ mechanism. one_mechanism_plan mechanism setup credential greeting)
 
-pub one_login : (setup : Setup) (greeting : Greeting) → HasOneTurn (login_plan setup greeting)
+pub one_login : (setup : LoginSetup) (greeting : Greeting) → HasOneTurn (login_plan setup greeting)
 unfolding login_plan
 one_login setup greeting = one_login_by (logging_in setup greeting) setup greeting

@@ -51,7 +51,7 @@ module _ (address : ServerAddress) (number : ℕ) (options : HandshakerOptions) 
 
     pub monitored : opened.id ≡ number → opened.oidc_token_gen_id ≡ 0 → Monitored alone connection old new after reply
     monitored numbered token =
-        let whole = handshake_reached alone greeting old new new after after hello (nobody alone greeting new after (no_credential alone greeting refl)) in
+        let whole = handshake_reached alone greeting old new new after after hello (nobody alone.login greeting new after (no_credential alone.login greeting refl)) in
         record {
           script = script_by alone greeting old new after whole tt;
           scripted = scripted_by alone greeting old new after whole tt;
@@ -71,4 +71,4 @@ module _ (address : ServerAddress) (number : ℕ) (options : HandshakerOptions) 
 
   pub unmonitored_whole : {T : Type 0} (r : Result T Error) (old new : State) (after : ℤ) → IfErr r (λ e. Stopped (hello_plan alone) e.kind (point old id) (point new after)) → IfErr r (λ e. Stopped (establishment_plan alone) e.kind (point old id) (point new after))
   unfolding handshake_plan
-  unmonitored_whole r old new after = IfErr-weaker r _ _ (λ e s. handshake_stops alone e.kind old new after (s.0, stopped_first (hello_plan alone) (login_plan alone) e.kind old new id after s.1))
+  unmonitored_whole r old new after = IfErr-weaker r _ _ (λ e s. handshake_stops alone e.kind old new after (s.0, stopped_first (hello_plan alone) (login_plan alone.login) e.kind old new id after s.1))

@@ -34,7 +34,6 @@ use Rattle.mongo_establish.proofs.EstablishedScript.{handshake_reached, script_b
 use Rattle.mongo_establish.proofs.FirstRounds.{first_speculation, round_of}
 use Rattle.mongo_establish.proofs.HelloBody.{unmade_refused}
 use Rattle.mongo_establish.proofs.HelloExchange.{unbuilt}
-use Rattle.mongo_establish.proofs.LoginAlike.{pending_over, reached_alike, stopped_alike, costs_alike, stopped_login_costs_alike}
 
 -- ---- results
 
@@ -113,13 +112,9 @@ module _ (opened : Connection) (options : HandshakerOptions) (credential : Optio
       hello_reached : Reached (hello_plan setup) greeting (point old id) (point middle between)
       hello_reached = reached_so greeting old middle between greeted.reached
 
-      -- the login is asked anew, over the described connection
-      abbrev anew : Setup
-      anew = setup_over described options credential nonces between
-
-      held_round : IsRoundOf credential anew greeting round
+      held_round : IsRoundOf credential setup.login greeting round
       unfolding greeting_in
-      held_round = round_of credential anew (greeting_in opened.address reply) first round refl is_first there scram
+      held_round = round_of credential setup.login (greeting_in opened.address reply) first round refl is_first there scram
 
       held : (connection : Connection) → KeepsRest described connection → HoldsGreeting opened connection greeting
       held connection later =
@@ -133,14 +128,14 @@ module _ (opened : Connection) (options : HandshakerOptions) (credential : Optio
           }
 
       pub login_stopped : (given : List Given) {T : Type 0} (r : Result T Error) (connection : Connection) (new : State) (after : ℤ) (first last : Ledgers) → KeepsRest described connection
-          → IfErr r (λ e. LoginStops given anew described.stream_description round e.kind (kept_fault connection) (checkpoint (point middle between) first) (checkpoint (point new after) last)) → IfErr r (λ e. StoppedHandshake given setup opened connection e.kind (start_of setup old first) (checkpoint (point new after) last))
+          → IfErr r (λ e. LoginStops given setup.login described.stream_description round e.kind (kept_fault connection) (checkpoint (point middle between) first) (checkpoint (point new after) last)) → IfErr r (λ e. StoppedHandshake given setup opened connection e.kind (start_of setup old first) (checkpoint (point new after) last))
       login_stopped given (Ok x) connection new after first last later h = tt
       login_stopped given (Err e) connection new after first last later h = inr (record {
         greeting = greeting;
         middle = point middle between;
         hello = hello_reached;
-        login = stopped_alike (pending_over described) (pending_over opened) options credential nonces between id greeting e.kind middle new between after (h.stopped greeting greeted.described.holds.description_is held_round);
-        costs = stopped_login_costs_alike (pending_over described) (pending_over opened) options credential nonces between id greeting e.kind (checkpoint (point middle between) first) (checkpoint (point new after) last) (h.costs greeting greeted.described.holds.description_is held_round);
+        login = h.stopped greeting greeted.described.holds.description_is held_round;
+        costs = h.costs greeting greeted.described.holds.description_is held_round;
         held = held connection later;
       })
 
@@ -157,9 +152,9 @@ module _ (opened : Connection) (options : HandshakerOptions) (credential : Optio
           })
 
       pub shook : {given : List Given} (connection : Connection) (new : State) (after : ℤ) (first last : Ledgers) (answer : HelloReply) → KeepsRest described connection → kept_fault connection ≡ None → answer ≡ taken_out reply sent
-          → LogsIn given anew described.stream_description round (checkpoint (point middle between) first) (checkpoint (point new after) last) → ShookHands given setup opened connection (start_of setup old first) (checkpoint (point new after) last) answer
+          → LogsIn given setup.login described.stream_description round (checkpoint (point middle between) first) (checkpoint (point new after) last) → ShookHands given setup opened connection (start_of setup old first) (checkpoint (point new after) last) answer
       shook connection new after first last answer later faultless is h =
-          let login = reached_alike (pending_over described) (pending_over opened) options credential nonces between id greeting middle new between after (h.reached greeting greeted.described.holds.description_is held_round) in
+          let login = h.reached greeting greeted.described.holds.description_is held_round in
           let whole = handshake_reached setup greeting old middle new between after hello_reached login in
           record {
             script = script_by setup greeting old new after whole tt;
@@ -168,7 +163,7 @@ module _ (opened : Connection) (options : HandshakerOptions) (credential : Optio
             middle = point middle between;
             hello = hello_reached;
             login = login;
-            costs = costs_alike (pending_over described) (pending_over opened) options credential nonces between id greeting (checkpoint (point middle between) first) (checkpoint (point new after) last) (h.costs greeting greeted.described.holds.description_is held_round);
+            costs = h.costs greeting greeted.described.holds.description_is held_round;
             described = record { holds = held connection later; faultless = faultless };
             reply_is = is_reply answer is;
           }

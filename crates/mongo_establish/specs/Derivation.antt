@@ -9,7 +9,7 @@ use Rattle.mongo_scram.specs.Costs.{key_by}
 use Rattle.mongo_scram.specs.Plan.{opening}
 use Rattle.mongo_establish.specs.declared.conversation.Conversation.{Conversation}
 use Rattle.mongo_establish.specs.declared.conversation.Conversation.TheVariants.{Scram}
-use Rattle.mongo_establish.specs.Setup.{Setup}
+use Rattle.mongo_establish.specs.Setup.{LoginSetup, Setup}
 use Rattle.mongo_establish.specs.Greeting.{Greeting}
 use Rattle.mongo_establish.specs.Login.{logging_in, speculative_reply, IsMechanism, InvalidRow, scram_handed_by}
 use Rattle.mongo_establish.specs.Plan.{hello_plan}
@@ -18,27 +18,27 @@ use Rattle.mongo_establish.specs.Spoken.{conversation_of}
 -- ---- the plan
 
 -- SCRAM's opening ends with the key, whose password is usable
-abbrev pub scram_derivation : ScramVersion → Setup → Credential → Greeting → Plan (Option SaltedKey)
+abbrev pub scram_derivation : ScramVersion → LoginSetup → Credential → Greeting → Plan (Option SaltedKey)
 scram_derivation version setup credential greeting =
     followed_by (opening (scram_handed_by version setup credential greeting)) (λ challenge. ending (Some (key_by (scram_handed_by version setup credential greeting) challenge)))
 
 -- it follows where the mechanism takes the credential; another conversation derives from none
-unfoldable pub derivation_by : Option Conversation → AuthMechanism → Setup → Credential → Greeting → Plan (Option SaltedKey)
+unfoldable pub derivation_by : Option Conversation → AuthMechanism → LoginSetup → Credential → Greeting → Plan (Option SaltedKey)
 derivation_by (Some (Scram version)) mechanism setup credential greeting = unless (InvalidRow (speculative_reply setup greeting) mechanism credential) (scram_derivation version setup credential greeting)
 derivation_by conversation mechanism setup credential greeting = ending None
 
 -- nor does a server where nobody logs in ask for one
-abbrev pub derivation_of : Option Credential → Setup → Greeting → Plan (Option SaltedKey)
+abbrev pub derivation_of : Option Credential → LoginSetup → Greeting → Plan (Option SaltedKey)
 derivation_of None setup greeting = ending None
 derivation_of (Some credential) setup greeting =
     reading (IsMechanism credential.mechanism (speculative_reply setup greeting) greeting.description) (λ mechanism. derivation_by (conversation_of mechanism) mechanism setup credential greeting)
 
-unfoldable pub login_derivation : Setup → Greeting → Plan (Option SaltedKey)
+unfoldable pub login_derivation : LoginSetup → Greeting → Plan (Option SaltedKey)
 login_derivation setup greeting = derivation_of (logging_in setup greeting) setup greeting
 
 -- the hello, and then the login up to its key
 unfoldable pub derivation_plan : Setup → Plan (Option SaltedKey)
-derivation_plan setup = followed_by (hello_plan setup) (login_derivation setup)
+derivation_plan setup = followed_by (hello_plan setup) (login_derivation setup.login)
 
 -- ---- what reply bytes call for
 

@@ -12,7 +12,7 @@ use Rattle.mongo_scram.specs.declared.first_round.FirstRound.{FirstRound as Scra
 use Rattle.mongo_scram.specs.Client.{message_of, nonce_of, first_source, includes_db, SameFirst, speculated_of}
 use Rattle.mongo_scram.specs.Commands.{first_body}
 use Rattle.mongo_scram.specs.Plan.{Speculated}
-use Rattle.mongo_establish.specs.Setup.{Setup}
+use Rattle.mongo_establish.specs.Setup.{LoginSetup}
 use Rattle.mongo_establish.specs.Greeting.{Greeting}
 use Rattle.mongo_establish.specs.Login.{speculative_reply, speculated_by}
 use Rattle.mongo_establish.specs.declared.conversation.Conversation.{Conversation}
@@ -110,11 +110,11 @@ round_with first answer = None
 
 -- A first round of the conversation is there where the greeting answers to what went with the hello; a round of SCRAM is what it
 -- answers.
-pub record IsRoundBy (conversation : Option Conversation) (credential : Credential) (setup : Setup) (greeting : Greeting) (round : Option AnsweredRound) : Type 0 where
+pub record IsRoundBy (conversation : Option Conversation) (credential : Credential) (setup : LoginSetup) (greeting : Greeting) (round : Option AnsweredRound) : Type 0 where
   pub there : is_some round ≡ is_some (speculative_reply setup greeting)
   pub scram : IsScram conversation → speculated_of (scram_round round) ≡ speculated_by credential setup greeting
 
 -- the first round that went with the hello
-abbrev pub IsRoundOf : Option Credential → Setup → Greeting → Option AnsweredRound → Type 0
+abbrev pub IsRoundOf : Option Credential → LoginSetup → Greeting → Option AnsweredRound → Type 0
 IsRoundOf None setup greeting round = ⊤
 IsRoundOf (Some credential) setup greeting round = IsRoundBy (conversation_of (mechanism_before credential.mechanism)) credential setup greeting round

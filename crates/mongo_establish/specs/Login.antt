@@ -15,7 +15,7 @@ use Rattle.mongo_scram.specs.Base64.{base64_of}
 use Rattle.mongo_scram.specs.Plan.{Handed, Speculated}
 use Rattle.mongo_establish.specs.declared.login_state.Nonces.{Nonces}
 use Rattle.mongo_establish.specs.declared.options.HandshakerOptions.{HandshakerOptions}
-use Rattle.mongo_establish.specs.Setup.{Setup}
+use Rattle.mongo_establish.specs.Setup.{LoginSetup}
 use Rattle.mongo_establish.specs.Greeting.{Greeting}
 use Rattle.mongo_establish.specs.Speculation.{speculation, speculative_message, speculative_nonce, answer_to}
 
@@ -25,11 +25,11 @@ holds_users RsArbiter = false
 holds_users other = true
 
 -- who logs in at the server that answered
-abbrev pub logging_in : Setup → Greeting → Option Credential
+abbrev pub logging_in : LoginSetup → Greeting → Option Credential
 logging_in setup greeting = if holds_users greeting.description.initial_server_type then setup.credential else None
 
 -- what the server answered to the login that went with the hello
-abbrev pub speculative_reply : Setup → Greeting → Option (List ℕ)
+abbrev pub speculative_reply : LoginSetup → Greeting → Option (List ℕ)
 speculative_reply setup greeting = answer_to (speculation setup.credential setup.nonces.first) greeting.speculative
 
 -- The mechanism of a login: the one that is given. Else SCRAM-SHA-256, where the login that went with the hello was answered,
@@ -62,7 +62,7 @@ pub record LoginHanded : Type 0 where
   -- the greatest frame
   pub maximum : ℤ
 
-abbrev pub login_handed : Setup → Credential → Greeting → LoginHanded
+abbrev pub login_handed : LoginSetup → Credential → Greeting → LoginHanded
 login_handed setup credential greeting = record {
   credential = credential;
   options = setup.options;
@@ -87,8 +87,8 @@ scram_handed version handed = record {
   maximum = handed.maximum;
 }
 
-abbrev pub speculated_by : Credential → Setup → Greeting → Option Speculated
+abbrev pub speculated_by : Credential → LoginSetup → Greeting → Option Speculated
 speculated_by credential setup greeting = speculated_in (login_handed setup credential greeting)
 
-abbrev pub scram_handed_by : ScramVersion → Setup → Credential → Greeting → Handed
+abbrev pub scram_handed_by : ScramVersion → LoginSetup → Credential → Greeting → Handed
 scram_handed_by version setup credential greeting = scram_handed version (login_handed setup credential greeting)

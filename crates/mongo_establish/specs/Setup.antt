@@ -12,20 +12,27 @@ use Rattle.mongo_scram.specs.Costs.{Ledgers, ledgers, Checkpoint, checkpoint}
 use Rattle.mongo_establish.specs.declared.login_state.LoginState.{LoginState}
 use Rattle.mongo_establish.specs.declared.login_state.Nonces.{Nonces}
 
--- all of it: the definitions of an establishment speak of nothing else
-pub record Setup : Type 0 where
-  pub pending : PendingConnection
+-- what a login is handed: the same for all connections, addresses and ids
+pub record LoginSetup : Type 0 where
   -- what the establisher was made of
   pub options : HandshakerOptions
   -- who logs in, if anyone
   pub credential : Option Credential
   -- the first goes with the hello, the second into a first message after it
   pub nonces : Nonces
+
+-- all of it: the definitions of an establishment speak of nothing else
+pub record Setup : Type 0 where
+  pub pending : PendingConnection
+  pub login : LoginSetup
   -- the id of the first command
   pub first_id : ℤ
 
+abbrev pub login_setup : HandshakerOptions → Option Credential → Nonces → LoginSetup
+login_setup options credential nonces = record { options = options; credential = credential; nonces = nonces }
+
 abbrev pub setup_for : PendingConnection → HandshakerOptions → Option Credential → Nonces → ℤ → Setup
-setup_for pending options credential nonces first_id = record { pending = pending; options = options; credential = credential; nonces = nonces; first_id = first_id }
+setup_for pending options credential nonces first_id = record { pending = pending; login = login_setup options credential nonces; first_id = first_id }
 
 -- a handshake over this connection asks the same, and knows no pool
 abbrev pub setup_over : Connection → HandshakerOptions → Option Credential → Nonces → ℤ → Setup

@@ -10,7 +10,7 @@ use Rattle.mongo_establish.specs.declared.generation.ConnectionGeneration.{Conne
 use Rattle.mongo_establish.specs.declared.establisher.HandshakePhase.{HandshakePhase}
 use Rattle.mongo_establish.specs.declared.establisher.HandshakePhase.TheVariants.{PreHello, PostHello}
 use Rattle.mongo_establish.specs.Generation.{generation_of}
-use Rattle.mongo_establish.specs.Setup.{Setup}
+use Rattle.mongo_establish.specs.Setup.{LoginSetup, Setup}
 use Rattle.mongo_establish.specs.Costs.{LoginCosts, StoppedLoginCosts}
 use Rattle.mongo_establish.specs.Greeting.{Greeting}
 use Rattle.mongo_establish.specs.Plan.{hello_plan, login_plan, establishment_plan}
@@ -19,14 +19,14 @@ use Rattle.mongo_establish.specs.Refusal.{NoService}
 -- ---- what a call did
 
 -- the login was stopped, and cost this
-pub record LoginRefused (given : List Given) (setup : Setup) (greeting : Greeting) (kind : ErrorKind) (old new : Checkpoint) : Type 0 where
+pub record LoginRefused (given : List Given) (setup : LoginSetup) (greeting : Greeting) (kind : ErrorKind) (old new : Checkpoint) : Type 0 where
   pub login : StoppedWith given (login_plan setup greeting) kind old.point new.point
   pub costs : StoppedLoginCosts setup greeting kind old new
 
 -- it was followed to its end, and cost this, and then the server had named no service
 pub record UnnamedAfterLogin (given : List Given) (setup : Setup) (greeting : Greeting) (kind : ErrorKind) (old new : Checkpoint) : Type 0 where
-  pub login : ReachedGiven given (login_plan setup greeting) greeting old.point new.point
-  pub costs : LoginCosts setup greeting old new
+  pub login : ReachedGiven given (login_plan setup.login greeting) greeting old.point new.point
+  pub costs : LoginCosts setup.login greeting old new
   pub unnamed : NoService setup.pending.generation greeting.description kind
 
 -- the hello had described the server, and what follows it was stopped, from where the hello had ended
@@ -35,7 +35,7 @@ pub record StoppedAfterHello (given : List Given) (setup : Setup) (generation : 
   pub middle : Point
   pub hello : Reached (hello_plan setup) greeting old.point middle
   pub generation_is : generation ≡ generation_of setup.pending.generation greeting.description
-  pub stopped : LoginRefused given setup greeting kind (checkpoint middle old.ledgers) new ⊎ UnnamedAfterLogin given setup greeting kind (checkpoint middle old.ledgers) new
+  pub stopped : LoginRefused given setup.login greeting kind (checkpoint middle old.ledgers) new ⊎ UnnamedAfterLogin given setup greeting kind (checkpoint middle old.ledgers) new
 
 -- The phase says which part was stopped: the hello, with the pool's generation, which asks and costs nothing, or what follows it,
 -- with the connection's.

@@ -7,7 +7,7 @@ ghost use Rattle.mongo_command.specs.Exchange.{CountsStay};
 ghost use Rattle.mongo_scram.specs.Cache.{entries_of};
 ghost use Rattle.mongo_scram.specs.Costs.{ledgers};
 ghost use Rattle.mongo_establish.specs.declared.conversation.Conversation.TheVariants.{Scram};
-ghost use Rattle.mongo_establish.specs.Setup.{setup_over, checkpoint_with};
+ghost use Rattle.mongo_establish.specs.Setup.{login_setup, checkpoint_with};
 ghost use Rattle.mongo_establish.specs.First.{IsScramRound, IsRoundIn, IsOwnRound};
 ghost use Rattle.mongo_establish.specs.Login.{holds_users, IsMechanism, InvalidRow};
 ghost use Rattle.mongo_establish.specs.LoggingIn.{Converses, IsCredentialValid, LogsIn, LoginStops};
@@ -40,9 +40,9 @@ pub(crate) fn log_in<L: Link, G: Ledger>(
     requires described { IsSome connection.old.stream_description }
     requires faultless { kept_fault connection.old ≡ None }
     requires own { IsOwnRound (option_copied credential) round }
-    ensures logged_in { OnOk result (LogsIn [] (setup_over connection.old options.now (option_copied credential.entry) inputs.now.nonces state.old.ids) connection.old.stream_description round
+    ensures logged_in { OnOk result (LogsIn [] (login_setup options.now (option_copied credential.entry) inputs.now.nonces) connection.old.stream_description round
         (checkpoint_with (L.state link.old) state.old steps.old) (checkpoint_with (L.state link.new) state.new steps.new)) }
-    ensures refused { IfErr result (λ e. LoginStops [] (setup_over connection.old options.now (option_copied credential.entry) inputs.now.nonces state.old.ids) connection.old.stream_description round e.kind (kept_fault connection.new)
+    ensures refused { IfErr result (λ e. LoginStops [] (login_setup options.now (option_copied credential.entry) inputs.now.nonces) connection.old.stream_description round e.kind (kept_fault connection.new)
         (checkpoint_with (L.state link.old) state.old steps.old) (checkpoint_with (L.state link.new) state.new steps.new)) }
     ensures entries { OnErr result (entries_of state.new.salted ≡ entries_of state.old.salted) }
     ensures connection { KeepsRest connection.old connection.new }
@@ -91,7 +91,7 @@ fn converse<L: Link, G: Ledger>(
 ) -> Result<(), Error>
     requires faultless { kept_fault connection.old ≡ None }
     requires own { IsRoundIn (Some conversation) round }
-    ensures converses { Converses [] result conversation (setup_over connection.old options.now (Some credential.now) inputs.now.nonces state.old.ids) credential.now round connection.old connection.new
+    ensures converses { Converses [] result conversation (login_setup options.now (Some credential.now) inputs.now.nonces) credential.now round connection.old connection.new
         (checkpoint_with (L.state link.old) state.old steps.old) (checkpoint_with (L.state link.new) state.new steps.new) }
 {
     let api = options.auth_options.server_api.as_ref();
@@ -148,7 +148,7 @@ fn by_scram<L: Link, G: Ledger>(
 ) -> Result<(), Error>
     requires faultless { kept_fault connection.old ≡ None }
     requires own { IsScramRound round }
-    ensures converses { Converses [] result (Scram version) (setup_over connection.old options.now (Some credential.now) inputs.now.nonces state.old.ids) credential.now round connection.old connection.new
+    ensures converses { Converses [] result (Scram version) (login_setup options.now (Some credential.now) inputs.now.nonces) credential.now round connection.old connection.new
         (checkpoint_with (L.state link.old) state.old steps.old) (checkpoint_with (L.state link.new) state.new steps.new) }
 {
     version.authenticate_stream(

@@ -97,7 +97,7 @@ module _ (pending : PendingConnection) (credential : Credential) (version : Scra
   greeting = greeting_of pending.address server_first
 
   abbrev handed : Handed
-  handed = scram_handed_by version setup credential greeting
+  handed = scram_handed_by version setup.login credential greeting
 
   short : length server_first < 2 ^ 26
   short = short_in server_first replies.hello replies.hello_is
@@ -131,11 +131,11 @@ module _ (pending : PendingConnection) (credential : Credential) (version : Scra
       let (payload, close_is, small) = last_command login.user close last login.is_user.source is in
       (payload, commands_are ∙ ap (λ command. command ∷ []) close_is, small)
 
-  by_scram : {asked : List Given} (mechanism : AuthMechanism) (commands heard : List (List ℕ)) → IsMechanism credential.mechanism (speculative_reply setup greeting) greeting.description mechanism → IsLoginBy mechanism setup credential greeting asked commands heard → IsScramLogin handed commands heard
+  by_scram : {asked : List Given} (mechanism : AuthMechanism) (commands heard : List (List ℕ)) → IsMechanism credential.mechanism (speculative_reply setup.login greeting) greeting.description mechanism → IsLoginBy mechanism setup.login credential greeting asked commands heard → IsScramLogin handed commands heard
   by_scram {asked = asked} mechanism commands heard is login =
-      let same : mechanism ≡ mechanism_of version = subst (λ m. IsMechanism m (speculative_reply setup greeting) greeting.description mechanism) given is in
-      let by = subst (λ m. IsLoginBy m setup credential greeting asked commands heard) same login in
-      (subst (λ held. HoldsConversation held setup credential greeting asked commands heard) (same_conversation by.conversation (Scram version) (sym by.has_conversation ∙ has_scram version)) by.holds).1
+      let same : mechanism ≡ mechanism_of version = subst (λ m. IsMechanism m (speculative_reply setup.login greeting) greeting.description mechanism) given is in
+      let by = subst (λ m. IsLoginBy m setup.login credential greeting asked commands heard) same login in
+      (subst (λ held. HoldsConversation held setup.login credential greeting asked commands heard) (same_conversation by.conversation (Scram version) (sym by.has_conversation ∙ has_scram version)) by.holds).1
 
   -- what the first reply says is what the hello's reply says
   greets_so : (script : Script) (rest taken : List ℕ) → IsScript setup script → bytes ≡ taken ++ rest → AreRepliesTaken script taken → script.greeting ≡ greeting
@@ -148,8 +148,8 @@ module _ (pending : PendingConnection) (credential : Credential) (version : Scra
   pub script_carries : (script : Script) (sent taken rest : List ℕ) → IsScript setup script → IsWritten setup script sent → bytes ≡ taken ++ rest → AreRepliesTaken script taken → CarriesAnyLast sent
   script_carries script sent taken rest is written joined heard =
       let greeted = greets_so script rest taken is joined heard in
-      let login = subst (λ g. IsLogin setup g script.given is.later_commands is.later_replies) greeted is.login in
+      let login = subst (λ g. IsLogin setup.login g script.given is.later_commands is.later_replies) greeted is.login in
       let (payload, commands_are, small) = from_conversation is.later_commands is.later_replies (by_scram login.0 is.later_commands is.later_replies login.1 login.2) in
-      let commands : script.commands ≡ hello_document setup ∷ close_document payload ∷ [] = is.commands_are ∙ ap (λ later. hello_document setup ∷ later) commands_are in
-      let here : IsSent (hello_document setup ∷ close_document payload ∷ []) first_id maximum_message_length sent = subst (λ documents. IsSent documents first_id maximum_message_length sent) commands (subst (λ g. IsSent script.commands first_id g.description.max_message_size_bytes sent) greeted written) in
-      two_carry maximum_message_length first_id (hello_document setup) payload sent (omega (arith, ints)) here small
+      let commands : script.commands ≡ hello_document setup.login ∷ close_document payload ∷ [] = is.commands_are ∙ ap (λ later. hello_document setup.login ∷ later) commands_are in
+      let here : IsSent (hello_document setup.login ∷ close_document payload ∷ []) first_id maximum_message_length sent = subst (λ documents. IsSent documents first_id maximum_message_length sent) commands (subst (λ g. IsSent script.commands first_id g.description.max_message_size_bytes sent) greeted written) in
+      two_carry maximum_message_length first_id (hello_document setup.login) payload sent (omega (arith, ints)) here small

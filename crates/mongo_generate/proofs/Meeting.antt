@@ -31,7 +31,7 @@ use Rattle.mongo_establish.specs.declared.conversation.Conversation.TheVariants.
 use Rattle.mongo_establish.specs.declared.establisher.PendingConnection.{PendingConnection}
 use Rattle.mongo_establish.specs.declared.generation.PoolGeneration.TheVariants.{Normal}
 use Rattle.mongo_establish.specs.declared.login_state.Nonces.{Nonces}
-use Rattle.mongo_establish.specs.Setup.{Setup}
+use Rattle.mongo_establish.specs.Setup.{LoginSetup, Setup}
 use Rattle.mongo_establish.specs.Client.{hello_document}
 use Rattle.mongo_establish.specs.Derivation.{scram_derivation, derivation_by, login_derivation, derivation_plan, LeadsToKey}
 use Rattle.mongo_establish.specs.Generation.{NamesService}
@@ -65,7 +65,7 @@ row_by Sha1 credential kind row = row
 row_by Sha256 credential kind row = row
 
 -- which was answered in the hello, so that its mechanism isn't asked whether it takes the credential
-login_answered_in_hello : (version : ScramVersion) (setup : Setup) (credential : Credential) (greeting : Greeting) (given : List ℕ) (commands replies : List (List ℕ)) → speculative_reply setup greeting ≡ Some given → IsScramLogin (scram_handed_by version setup credential greeting) commands replies
+login_answered_in_hello : (version : ScramVersion) (setup : LoginSetup) (credential : Credential) (greeting : Greeting) (given : List ℕ) (commands replies : List (List ℕ)) → speculative_reply setup greeting ≡ Some given → IsScramLogin (scram_handed_by version setup credential greeting) commands replies
     → IsLoginBy (mechanism_of version) setup credential greeting [] commands replies
 login_answered_in_hello version setup credential greeting given commands replies is login = record {
   taken = subst (λ reply. ValidatesCredential reply (mechanism_of version) credential) (sym is) tt;
@@ -74,7 +74,7 @@ login_answered_in_hello version setup credential greeting given commands replies
   holds = (refl, login);
 }
 
-derivation_ends : (version : ScramVersion) (setup : Setup) (credential : Credential) (greeting : Greeting) (key : SaltedKey) → HasNone (InvalidRow (speculative_reply setup greeting) (mechanism_of version) credential) → PlanEnds (scram_derivation version setup credential greeting) [] (Some key)
+derivation_ends : (version : ScramVersion) (setup : LoginSetup) (credential : Credential) (greeting : Greeting) (key : SaltedKey) → HasNone (InvalidRow (speculative_reply setup greeting) (mechanism_of version) credential) → PlanEnds (scram_derivation version setup credential greeting) [] (Some key)
     → derivation_by (conversation_of (mechanism_of version)) (mechanism_of version) setup credential greeting [] (ends (Some key))
 unfolding derivation_by
 derivation_ends Sha1 setup credential greeting key none is = inr (none, is.answer_is)
@@ -109,7 +109,7 @@ module _ (pending : PendingConnection) (x : Authentication) (nonces : Nonces) (b
   greeting = greeting_of pending.address (first_of x)
 
   abbrev handed : Handed
-  handed = scram_handed_by x.version setup credential greeting
+  handed = scram_handed_by x.version setup.login credential greeting
 
   abbrev close_heard : Challenge
   close_heard = challenge_of x conversation user
@@ -133,7 +133,7 @@ module _ (pending : PendingConnection) (x : Authentication) (nonces : Nonces) (b
 
   -- ---- what the client is handed
 
-  replied : speculative_reply setup greeting ≡ Some inner
+  replied : speculative_reply setup.login greeting ≡ Some inner
   replied = ap (λ s. answer_to s (Some inner)) (speculation_is x.version credential nonces.first refl)
 
   abbrev speculated : Speculated
@@ -172,27 +172,27 @@ module _ (pending : PendingConnection) (x : Authentication) (nonces : Nonces) (b
   unfolding handshaker_options
   said_is = ap (λ close. close_document close) accepted.closes
 
-  made : HasNone (HelloRow setup.credential)
+  made : HasNone (HelloRow setup.login.credential)
   made kind row = no_credential_row credential user is_user kind (row_by x.version credential kind row)
 
   greets : Greets setup.pending.address hello_heard greeting
   greets = greets_by pending.address (first_of x) (omega (arith, short_first))
 
   pub first_frame : List ℕ
-  first_frame = written_frame (pos 0) (plain_message (hello_document setup))
+  first_frame = written_frame (pos 0) (plain_message (hello_document setup.login))
 
   pub last_frame : List ℕ
   last_frame = written_frame (next_id (pos 0)) (plain_message (close_document (close_of x)))
 
-  first_is_frame : IsCommandFrame first_frame (pos 0) (hello_document setup)
+  first_is_frame : IsCommandFrame first_frame (pos 0) (hello_document setup.login)
   unfolding first_frame
   first_is_frame =
       let fits : FitsSigned w32 (pos 0) = omega arith in
-      command_frame_of (pos 0) (hello_document setup) fits (framed_hello pending x nonces possible nonce_is) (omega (arith, length_hello pending x nonces possible nonce_is))
+      command_frame_of (pos 0) (hello_document setup.login) fits (framed_hello pending x nonces possible nonce_is) (omega (arith, length_hello pending x nonces possible nonce_is))
 
   first_within : pos (length first_frame) ≤ℤ first_maximum
   unfolding first_frame
-  first_within = frame_within (pos 0) (hello_document setup) first_maximum (omega (arith, ints, length_hello pending x nonces possible nonce_is))
+  first_within = frame_within (pos 0) (hello_document setup.login) first_maximum (omega (arith, ints, length_hello pending x nonces possible nonce_is))
 
   last_is_frame : IsCommandFrame last_frame (next_id (pos 0)) (close_document (close_of x))
   unfolding last_frame
@@ -207,7 +207,7 @@ module _ (pending : PendingConnection) (x : Authentication) (nonces : Nonces) (b
   -- ---- the script
 
   abbrev script : Script
-  script = record { given = []; commands = hello_document setup ∷ close_document (close_of x) ∷ []; replies = hello_heard ∷ final_heard ∷ []; greeting = greeting }
+  script = record { given = []; commands = hello_document setup.login ∷ close_document (close_of x) ∷ []; replies = hello_heard ∷ final_heard ∷ []; greeting = greeting }
 
   is_login : IsScramLogin handed (close_document (close_of x) ∷ []) (final_heard ∷ [])
   is_login = record {
@@ -226,7 +226,7 @@ module _ (pending : PendingConnection) (x : Authentication) (nonces : Nonces) (b
     later_replies = final_heard ∷ [];
     replies_are = refl;
     greets = greets;
-    login = (mechanism_of x.version, refl, login_answered_in_hello x.version setup credential greeting inner (close_document (close_of x) ∷ []) (final_heard ∷ []) replied is_login);
+    login = (mechanism_of x.version, refl, login_answered_in_hello x.version setup.login credential greeting inner (close_document (close_of x) ∷ []) (final_heard ∷ []) replied is_login);
     service = subst (λ generation. NamesService generation greeting.description) (sym pool) tt;
   }
 
@@ -255,7 +255,7 @@ module _ (pending : PendingConnection) (x : Authentication) (nonces : Nonces) (b
     first = first_frame;
     second = last_frame;
     joined = is;
-    first_parts = record { request_id = pos 0; response_to = pos 0; flags = 0; body = hello_document setup; sequences = []; checksum = None };
+    first_parts = record { request_id = pos 0; response_to = pos 0; flags = 0; body = hello_document setup.login; sequences = []; checksum = None };
     first_is = first_is_frame.is_frame;
     first_within = first_within;
     second_parts = record { request_id = next_id (pos 0); response_to = pos 0; flags = 0; body = close_document (close_of x); sequences = []; checksum = None };
@@ -297,22 +297,22 @@ module _ (pending : PendingConnection) (x : Authentication) (nonces : Nonces) (b
   opens : PlanEnds (opening handed) [] close_heard
   opens = opening_ends handed [] close_heard (subst (λ s. CanOpen s handed user) (sym speculates) tt) is_opened
 
-  derives : PlanEnds (scram_derivation x.version setup credential greeting) [] (Some (key_of x))
+  derives : PlanEnds (scram_derivation x.version setup.login credential greeting) [] (Some (key_of x))
   derives = ends_both (opening handed) (λ challenge. ending (Some (key_by handed challenge))) [] [] close_heard (Some (key_of x)) opens (record { follows = tt; answer_is = refl })
 
-  login_ends_with_key : PlanEnds (login_derivation setup greeting) [] (Some (key_of x))
+  login_ends_with_key : PlanEnds (login_derivation setup.login greeting) [] (Some (key_of x))
   unfolding login_derivation
   login_ends_with_key = record {
     follows = tt;
-    answer_is = (mechanism_of x.version, refl, derivation_ends x.version setup credential greeting (key_of x) (never_invalid (speculative_reply setup greeting) inner (mechanism_of x.version) credential replied) derives);
+    answer_is = (mechanism_of x.version, refl, derivation_ends x.version setup.login credential greeting (key_of x) (never_invalid (speculative_reply setup.login greeting) inner (mechanism_of x.version) credential replied) derives);
   }
 
-  sendable : IsSendable (hello_said setup)
-  sendable = framed_sendable (hello_said setup) first_frame (pos 0) first_is_frame first_within
+  sendable : IsSendable (hello_said setup.login)
+  sendable = framed_sendable (hello_said setup.login) first_frame (pos 0) first_is_frame first_within
 
-  ends_with_key : PlanEnds (derivation_plan setup) (exchanged (hello_said setup) hello_heard ∷ []) (Some (key_of x))
+  ends_with_key : PlanEnds (derivation_plan setup) (exchanged (hello_said setup.login) hello_heard ∷ []) (Some (key_of x))
   unfolding derivation_plan
-  ends_with_key = ends_both (hello_plan setup) (login_derivation setup) (exchanged (hello_said setup) hello_heard ∷ []) [] greeting (Some (key_of x)) (greeting_ends setup hello_heard greeting made sendable greets) login_ends_with_key
+  ends_with_key = ends_both (hello_plan setup) (login_derivation setup.login) (exchanged (hello_said setup.login) hello_heard ∷ []) [] greeting (Some (key_of x)) (greeting_ends setup hello_heard greeting made sendable greets) login_ends_with_key
 
   pub leads_to_key : LeadsToKey setup bytes (Some (key_of x))
   leads_to_key =
@@ -322,11 +322,11 @@ module _ (pending : PendingConnection) (x : Authentication) (nonces : Nonces) (b
       let first_size : pos (length r.hello) ≤ℤ first_maximum = omega (arith, ints) in
       record {
         outcome = ends (Some (key_of x));
-        commands = hello_said setup ∷ [];
+        commands = hello_said setup.login ∷ [];
         taken = r.hello;
         unread = r.final;
         leads = record {
-          events = exchanged (hello_said setup) hello_heard ∷ [];
+          events = exchanged (hello_said setup.login) hello_heard ∷ [];
           follows = ends_with_key.follows;
           given_is = refl;
           heard = r.hello;

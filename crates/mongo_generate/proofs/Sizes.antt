@@ -108,7 +108,7 @@ length_speculating login document d is = subst (λ l. length (speculating l d) �
 length_introducing : (d : List ℕ) → length (introducing handshaker_options.metadata d) ≤ length d + 530
 length_introducing d = omega (arith, length_with metadata_key (client_of handshaker_options.metadata (length d)) d, short_client (length d))
 
-pub length_hello : (pending : PendingConnection) (x : Authentication) (nonces : Nonces) → IsPossible x → base64_of nonces.first ≡ x.nonce → length (hello_document (setup_by_client pending x nonces)) ≤ 2 ^ 23
+pub length_hello : (pending : PendingConnection) (x : Authentication) (nonces : Nonces) → IsPossible x → base64_of nonces.first ≡ x.nonce → length (hello_document (setup_by_client pending x nonces).login) ≤ 2 ^ 23
 length_hello pending x nonces possible nonce =
     let credential = credential_by x.version x.username x.password in
     let login = speculation (Some credential) nonces.first in
@@ -117,7 +117,7 @@ length_hello pending x nonces possible nonce =
     let short = possible.short in
     omega (
       arith,
-      length_command (login_hello (setup_by_client pending x nonces)),
+      length_command (login_hello (setup_by_client pending x nonces).login),
       length_introducing (speculating login common),
       length_speculating login document common (speculation_is x.version credential nonces.first refl),
       length_arguments,
@@ -127,8 +127,8 @@ length_hello pending x nonces possible nonce =
       ap length nonce,
     )
 
-pub framed_hello : (pending : PendingConnection) (x : Authentication) (nonces : Nonces) → IsPossible x → base64_of nonces.first ≡ x.nonce → IsFramed (hello_document (setup_by_client pending x nonces))
-framed_hello pending x nonces possible nonce = framed_command (login_hello (setup_by_client pending x nonces)) (let size = length_hello pending x nonces possible nonce in omega arith)
+pub framed_hello : (pending : PendingConnection) (x : Authentication) (nonces : Nonces) → IsPossible x → base64_of nonces.first ≡ x.nonce → IsFramed (hello_document (setup_by_client pending x nonces).login)
+framed_hello pending x nonces possible nonce = framed_command (login_hello (setup_by_client pending x nonces).login) (let size = length_hello pending x nonces possible nonce in omega arith)
 
 -- ---- the last command
 
