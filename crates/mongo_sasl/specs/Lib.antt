@@ -13,3 +13,5 @@ pub mod Stops
 pub mod EndsByScript
 pub mod Plain
 pub mod X509
+pub mod Helper
+pub mod NoHelper

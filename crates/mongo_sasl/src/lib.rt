@@ -13,12 +13,15 @@
 #![tactic(auto)]
 
 mod aws_credentials;
+mod callback;
 mod commands;
 mod credential;
+mod helper;
 pub mod keys;
 mod login_bodies;
 mod mechanism;
 mod moment;
+mod no_helper;
 pub mod plain;
 mod properties;
 mod refusal;
@@ -31,10 +34,13 @@ mod validation;
 pub mod x509;
 
 pub use aws_credentials::AwsCredentials;
+pub use callback::{CallbackContext, IdpServerInfo, IdpServerResponse};
 pub use commands::AuthOptions;
 pub use credential::Credential;
+pub use helper::{Helper, HelperFault, HelperKind};
 pub use mechanism::AuthMechanism;
 pub use moment::Moment;
+pub use no_helper::NoHelper;
 pub use properties::{
     ALLOWED_HOSTS_PROP_STR, AWS_SESSION_TOKEN, AZURE_ENVIRONMENT_VALUE_STR, ENVIRONMENT_PROP_STR,
     GCP_ENVIRONMENT_VALUE_STR, TOKEN_RESOURCE_PROP_STR,

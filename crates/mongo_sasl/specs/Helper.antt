@@ -1,0 +1,84 @@
+-- A helper: whoever a mechanism asks for credentials of AWS or for a token. It means what it may answer to each question, which
+-- never changes, and its counts.
+use Rattle.std.specs.Prelude.{◌≡◌, ◌⊎◌, ◌↔◌, ℕ, ◌+◌, ◌-◌, ◌^◌, min, Option, None, Some, option_map, Result, Ok, Err, codes, ⊤}
+use Rattle.mongo_wire.specs.Outside.{Rose}
+use Rattle.mongo_command.specs.Helper.{IdentityProvider, Context, Token, AwsKeys, Question, for_keys, for_token, for_pause, Answer, aws_keys, token, paused, fails, HelperAnswers}
+use Rattle.mongo_sasl.specs.declared.aws_credentials.AwsCredentials.{AwsCredentials}
+use Rattle.mongo_sasl.specs.declared.callback.CallbackContext.{CallbackContext}
+use Rattle.mongo_sasl.specs.declared.callback.IdpServerInfo.{IdpServerInfo}
+use Rattle.mongo_sasl.specs.declared.callback.IdpServerResponse.{IdpServerResponse}
+use Rattle.mongo_sasl.specs.declared.helper.HelperFault.{HelperFault}
+use Rattle.mongo_sasl.specs.declared.helper.HelperFault.TheVariants.{Callback, OutOfMemory}
+
+-- ---- what is asked and answered, as values
+
+abbrev pub keys_of : AwsCredentials → AwsKeys
+keys_of credentials = record { access_key = credentials.access_key; secret_key = credentials.secret_key; session_token = credentials.session_token }
+
+abbrev pub provider_of : IdpServerInfo → IdentityProvider
+provider_of info = record { issuer = info.issuer; client_id = info.client_id; request_scopes = info.request_scopes }
+
+abbrev pub context_of : CallbackContext → Context
+context_of context = record { timeout = context.timeout; version = context.version; refresh_token = context.refresh_token; provider = option_map provider_of context.idp_info }
+
+abbrev pub token_of : IdpServerResponse → Token
+token_of response = record { access_token = response.access_token; expires = response.expires; refresh_token = response.refresh_token }
+
+-- ---- what it may answer
+
+-- The answer is one that it may give. Want of memory is free.
+abbrev pub MayAnswer : {T : Type 0} → HelperAnswers → Question → (T → Answer) → Result T HelperFault → Type 0
+MayAnswer gives question answer_of (Ok value) = gives question (answer_of value)
+MayAnswer gives question answer_of (Err (Callback text)) = gives question (fails text)
+MayAnswer gives question answer_of (Err OutOfMemory) = ⊤
+
+abbrev pub MayGiveKeys : HelperAnswers → Result (Option AwsCredentials) HelperFault → Type 0
+MayGiveKeys gives result = MayAnswer gives for_keys (λ keys. aws_keys (option_map keys_of keys)) result
+
+abbrev pub MayGiveToken : HelperAnswers → CallbackContext → Result IdpServerResponse HelperFault → Type 0
+MayGiveToken gives context result = MayAnswer gives (for_token (context_of context)) (λ response. token (token_of response)) result
+
+-- it may answer the same as before
+abbrev pub AnswersAlike : HelperAnswers → HelperAnswers → Type 0
+AnswersAlike gives later = (question : Question) (answer : Answer) → later question answer ↔ gives question answer
+
+-- ---- its counts
+
+-- how often it was asked for a token, how often it failed by a text of its own, and the sum of its pauses, in milliseconds. Each
+-- stands at its type's last value.
+pub record HelperCounts : Type 0 where
+  pub asked : ℕ
+  pub faults : ℕ
+  pub pauses : ℕ
+
+-- a text of its own is a fault that was counted; one that was wanting memory for it may have been
+abbrev pub CountsFault : {T : Type 0} → Result T HelperFault → ℕ → ℕ → Type 0
+CountsFault (Ok value) before after = after ≡ before
+CountsFault (Err (Callback text)) before after = Rose before after
+CountsFault (Err OutOfMemory) before after = (after ≡ before) ⊎ Rose before after
+
+-- a question for a token rises its own count
+pub record CountsToken {T : Type 0} (result : Result T HelperFault) (old new : HelperCounts) : Type 0 where
+  pub asked : Rose old.asked new.asked
+  pub faults : CountsFault result old.faults new.faults
+  pub pauses : new.pauses ≡ old.pauses
+
+-- a question for credentials of AWS rises none but that of the faults
+pub record CountsKeys {T : Type 0} (result : Result T HelperFault) (old new : HelperCounts) : Type 0 where
+  pub asked : new.asked ≡ old.asked
+  pub faults : CountsFault result old.faults new.faults
+  pub pauses : new.pauses ≡ old.pauses
+
+-- a pause adds its milliseconds
+pub record CountsPause (ms : ℕ) (old new : HelperCounts) : Type 0 where
+  pub asked : new.asked ≡ old.asked
+  pub faults : new.faults ≡ old.faults
+  pub pauses : new.pauses ≡ min (old.pauses + ms) (2 ^ 64 - 1)
+
+-- ---- whoever has none
+
+-- it has no provider of AWS, and fails at each question for a token
+abbrev pub no_answers : HelperAnswers
+no_answers for_keys answer = answer ≡ aws_keys None
+no_answers (for_token context) answer = answer ≡ fails (codes "no callback")
+no_answers (for_pause ms) answer = answer ≡ paused
