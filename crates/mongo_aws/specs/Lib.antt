@@ -1,0 +1,13 @@
+pub mod Base64
+pub mod CanonicalRequest
+pub mod ClientFirst
+pub mod Credentials
+pub mod Date
+pub mod Host
+pub mod Keys
+pub mod Replies
+pub mod Scope
+pub mod ServerMessage
+pub mod SigningKey
+pub mod SigV4
+pub mod Validity
