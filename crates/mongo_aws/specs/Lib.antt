@@ -11,3 +11,6 @@ pub mod ServerMessage
 pub mod SigningKey
 pub mod SigV4
 pub mod Validity
+pub mod Plan
+pub mod Provider
+pub mod EndsByAws

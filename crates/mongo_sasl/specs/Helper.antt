@@ -1,8 +1,11 @@
 -- A helper: whoever a mechanism asks for credentials of AWS or for a token. It means what it may answer to each question, which
 -- never changes, and its counts.
-use Rattle.std.specs.Prelude.{◌≡◌, ◌⊎◌, ◌↔◌, ℕ, ◌+◌, ◌-◌, ◌^◌, min, Option, None, Some, option_map, Result, Ok, Err, codes, ⊤}
-use Rattle.mongo_wire.specs.Outside.{Rose}
-use Rattle.mongo_command.specs.Helper.{IdentityProvider, Context, Token, AwsKeys, Question, for_keys, for_token, for_pause, Answer, aws_keys, token, paused, fails, HelperAnswers}
+use Rattle.std.specs.Prelude.{◌≡◌, ◌⊎◌, ◌↔◌, ℕ, ◌+◌, ◌-◌, ◌^◌, min, Option, None, Some, List, [], ◌∷◌, option_map, Result, Ok, Err, codes, ⊤}
+use Rattle.std.specs.Result.{IsErrAnd}
+use Rattle.mongo_wire.specs.declared.error.Error.{Error}
+use Rattle.mongo_wire.specs.declared.error.ErrorKind.TheVariants.{OutOfMemory as NoMemory}
+use Rattle.mongo_wire.specs.Outside.{risen, Rose}
+use Rattle.mongo_command.specs.Helper.{IdentityProvider, Context, Token, AwsKeys, Question, for_keys, for_token, for_pause, Answer, aws_keys, token, paused, fails, HelperAnswers, Given, counted_question}
 use Rattle.mongo_sasl.specs.declared.aws_credentials.AwsCredentials.{AwsCredentials}
 use Rattle.mongo_sasl.specs.declared.callback.CallbackContext.{CallbackContext}
 use Rattle.mongo_sasl.specs.declared.callback.IdpServerInfo.{IdpServerInfo}
@@ -74,6 +77,35 @@ pub record CountsPause (ms : ℕ) (old new : HelperCounts) : Type 0 where
   pub asked : new.asked ≡ old.asked
   pub faults : new.faults ≡ old.faults
   pub pauses : new.pauses ≡ min (old.pauses + ms) (2 ^ 64 - 1)
+
+-- ---- what a login asked of it
+
+-- a text of its own counts as a fault
+abbrev pub counted_answer : Answer → ℕ → ℕ
+counted_answer (fails text) count = risen count
+counted_answer answer count = count
+
+abbrev pub paused_by : Question → ℕ → ℕ
+paused_by (for_pause ms) sum = min (sum + ms) (2 ^ 64 - 1)
+paused_by question sum = sum
+
+abbrev pub counts_after_one : Given → HelperCounts → HelperCounts
+counts_after_one one counts = record { asked = counted_question one.question counts.asked; faults = counted_answer one.answer counts.faults; pauses = paused_by one.question counts.pauses }
+
+-- its counts after these answers
+abbrev pub counts_after : List Given → HelperCounts → HelperCounts
+counts_after [] counts = counts
+counts_after (one ∷ given) counts = counts_after given (counts_after_one one counts)
+
+-- it was asked, and memory ran out before it answered
+pub record Unanswered (question : Question) (old new : HelperCounts) : Type 0 where
+  pub asked : new.asked ≡ counted_question question old.asked
+  pub faults : (new.faults ≡ old.faults) ⊎ Rose old.faults new.faults
+  pub pauses : new.pauses ≡ old.pauses
+
+-- it was asked what it gave these answers to, and nothing else but where memory ran out
+abbrev pub IsAskedFor : {T : Type 0} → Result T Error → List Given → HelperCounts → HelperCounts → Type 0
+IsAskedFor result given old new = (new ≡ counts_after given old) ⊎ (IsErrAnd result (λ e. e.kind ≡ NoMemory) × ((question : Question) × Unanswered question (counts_after given old) new))
 
 -- ---- whoever has none
 
