@@ -1,12 +1,14 @@
 -- How a login by MONGODB-AWS ends: by its script, and by the answers of the helper that it asked.
-use Rattle.std.specs.Prelude.{◌≡◌, ℕ, ℤ, Option, None, Some, Result, List, OnOk}
+use Rattle.std.specs.Prelude.{◌≡◌, ℕ, ℤ, Option, None, Some, Result, List, [], OnOk}
+use Rattle.std.specs.Result.{IsErrAnd}
 use Rattle.mongo_wire.specs.declared.error.Error.{Error}
 use Rattle.mongo_wire.specs.declared.error.ErrorKind.{ErrorKind}
+use Rattle.mongo_wire.specs.declared.error.ErrorKind.TheVariants.{OutOfMemory}
 use Rattle.mongo_wire.specs.Outside.{State}
 use Rattle.mongo_command.specs.declared.server_api.ServerApi.{ServerApi}
 use Rattle.mongo_command.specs.Connection.{kept_fault}
 use Rattle.mongo_command.specs.Conversation.{ReachedGiven}
-use Rattle.mongo_command.specs.Helper.{HelperAnswers, Given, IsSettled}
+use Rattle.mongo_command.specs.Helper.{for_keys, HelperAnswers, Given, IsSettled}
 use Rattle.mongo_sasl.specs.declared.credential.Credential.{Credential}
 use Rattle.mongo_sasl.specs.EndsByScript.{Standing, point_at, StopsBy, EndsByScript}
 use Rattle.mongo_sasl.specs.Helper.{HelperCounts, IsAskedFor}
@@ -17,8 +19,10 @@ aws_handed credential api nonce moment maximum = record { credential = credentia
 
 -- by these answers
 pub record EndsByAws {L : Type 0} (given : List Given) (gives : HelperAnswers) (state : L → State) (handed : AwsHanded) (result : Result (Unit {0}) Error) (old new : Standing L) (before after : HelperCounts) : Type 0 where
-  -- the helper was asked for what it gave, and for nothing else
-  pub asked : IsAskedFor result given before after
+  -- the helper was asked once at most, for credentials
+  pub asked : IsAskedFor (λ earlier question. (earlier ≡ []) × (question ≡ for_keys)) (IsErrAnd result (λ e. e.kind ≡ OutOfMemory)) given before after
+  -- and not over a connection that keeps a fault
+  pub unasked : (kind : ErrorKind) → kept_fault old.connection ≡ Some kind → (given ≡ []) × (after ≡ before)
   -- exactly the script's commands were written and its replies taken
   pub accepted : OnOk result (ReachedGiven given (aws_plan gives handed) tt (point_at state old) (point_at state new))
   -- an accepted login leaves the connection without a fault

@@ -1,9 +1,6 @@
 -- A helper: whoever a mechanism asks for credentials of AWS or for a token. It means what it may answer to each question, which
 -- never changes, and its counts.
 use Rattle.std.specs.Prelude.{◌≡◌, ◌⊎◌, ◌↔◌, ℕ, ◌+◌, ◌-◌, ◌^◌, min, Option, None, Some, List, [], ◌∷◌, option_map, Result, Ok, Err, codes, ⊤}
-use Rattle.std.specs.Result.{IsErrAnd}
-use Rattle.mongo_wire.specs.declared.error.Error.{Error}
-use Rattle.mongo_wire.specs.declared.error.ErrorKind.TheVariants.{OutOfMemory as NoMemory}
 use Rattle.mongo_wire.specs.Outside.{risen, Rose}
 use Rattle.mongo_command.specs.Helper.{IdentityProvider, Context, Token, AwsKeys, Question, for_keys, for_token, for_pause, Answer, aws_keys, token, paused, fails, HelperAnswers, Given, counted_question}
 use Rattle.mongo_sasl.specs.declared.aws_credentials.AwsCredentials.{AwsCredentials}
@@ -47,10 +44,11 @@ AnswersAlike gives later = (question : Question) (answer : Answer) → later que
 
 -- ---- its counts
 
--- how often it was asked for a token, how often it failed by a text of its own, and the sum of its pauses, in milliseconds. Each
--- stands at its type's last value.
+-- how often it was asked for a token and for credentials of AWS, how often it failed by a text of its own, and the sum of its
+-- pauses, in milliseconds. Each stands at its type's last value.
 pub record HelperCounts : Type 0 where
   pub asked : ℕ
+  pub key_questions : ℕ
   pub faults : ℕ
   pub pauses : ℕ
 
@@ -63,22 +61,30 @@ CountsFault (Err OutOfMemory) before after = (after ≡ before) ⊎ Rose before 
 -- a question for a token rises its own count
 pub record CountsToken {T : Type 0} (result : Result T HelperFault) (old new : HelperCounts) : Type 0 where
   pub asked : Rose old.asked new.asked
+  pub key_questions : new.key_questions ≡ old.key_questions
   pub faults : CountsFault result old.faults new.faults
   pub pauses : new.pauses ≡ old.pauses
 
--- a question for credentials of AWS rises none but that of the faults
+-- so does a question for credentials of AWS
 pub record CountsKeys {T : Type 0} (result : Result T HelperFault) (old new : HelperCounts) : Type 0 where
   pub asked : new.asked ≡ old.asked
+  pub key_questions : Rose old.key_questions new.key_questions
   pub faults : CountsFault result old.faults new.faults
   pub pauses : new.pauses ≡ old.pauses
 
 -- a pause adds its milliseconds
 pub record CountsPause (ms : ℕ) (old new : HelperCounts) : Type 0 where
   pub asked : new.asked ≡ old.asked
+  pub key_questions : new.key_questions ≡ old.key_questions
   pub faults : new.faults ≡ old.faults
   pub pauses : new.pauses ≡ min (old.pauses + ms) (2 ^ 64 - 1)
 
 -- ---- what a login asked of it
+
+-- a question for credentials counts as one
+abbrev pub counted_keys : Question → ℕ → ℕ
+counted_keys for_keys count = risen count
+counted_keys question count = count
 
 -- a text of its own counts as a fault
 abbrev pub counted_answer : Answer → ℕ → ℕ
@@ -90,7 +96,7 @@ paused_by (for_pause ms) sum = min (sum + ms) (2 ^ 64 - 1)
 paused_by question sum = sum
 
 abbrev pub counts_after_one : Given → HelperCounts → HelperCounts
-counts_after_one one counts = record { asked = counted_question one.question counts.asked; faults = counted_answer one.answer counts.faults; pauses = paused_by one.question counts.pauses }
+counts_after_one one counts = record { asked = counted_question one.question counts.asked; key_questions = counted_keys one.question counts.key_questions; faults = counted_answer one.answer counts.faults; pauses = paused_by one.question counts.pauses }
 
 -- its counts after these answers
 abbrev pub counts_after : List Given → HelperCounts → HelperCounts
@@ -100,12 +106,13 @@ counts_after (one ∷ given) counts = counts_after given (counts_after_one one c
 -- it was asked, and memory ran out before it answered
 pub record Unanswered (question : Question) (old new : HelperCounts) : Type 0 where
   pub asked : new.asked ≡ counted_question question old.asked
+  pub key_questions : new.key_questions ≡ counted_keys question old.key_questions
   pub faults : (new.faults ≡ old.faults) ⊎ Rose old.faults new.faults
   pub pauses : new.pauses ≡ old.pauses
 
--- it was asked what it gave these answers to, and nothing else but where memory ran out
-abbrev pub IsAskedFor : {T : Type 0} → Result T Error → List Given → HelperCounts → HelperCounts → Type 0
-IsAskedFor result given old new = (new ≡ counts_after given old) ⊎ (IsErrAnd result (λ e. e.kind ≡ NoMemory) × ((question : Question) × Unanswered question (counts_after given old) new))
+-- It was asked what it gave these answers to, and nothing else; or memory ran out at a question that may follow them.
+abbrev pub IsAskedFor : (List Given → Question → Type 0) → Type 0 → List Given → HelperCounts → HelperCounts → Type 0
+IsAskedFor MayFollow RanOut given old new = (new ≡ counts_after given old) ⊎ (RanOut × ((question : Question) × MayFollow given question × Unanswered question (counts_after given old) new))
 
 -- ---- whoever has none
 

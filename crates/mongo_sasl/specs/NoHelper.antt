@@ -2,5 +2,5 @@
 use Rattle.std.specs.Prelude.{ℕ}
 use Rattle.mongo_sasl.specs.Helper.{HelperCounts}
 
-abbrev pub counts_of : ℕ → ℕ → ℕ → HelperCounts
-counts_of asked faults pauses = record { asked = asked; faults = faults; pauses = pauses }
+abbrev pub counts_of : ℕ → ℕ → ℕ → ℕ → HelperCounts
+counts_of asked key_questions faults pauses = record { asked = asked; key_questions = key_questions; faults = faults; pauses = pauses }

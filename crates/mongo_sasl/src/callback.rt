@@ -12,7 +12,7 @@ pub struct IdpServerInfo {
 }
 
 /// What a helper is asked for a token with.
-#[derive(Debug, Drop)]
+#[derive(Drop)]
 pub struct CallbackContext {
     /// Until when it may take, in milliseconds since 1970, UTC.
     pub timeout: Option<i64>,
@@ -22,6 +22,17 @@ pub struct CallbackContext {
     pub refresh_token: Option<Text>,
     /// The identity provider. None for a machine's login, and where the server hasn't told it yet.
     pub idp_info: Option<IdpServerInfo>,
+}
+
+/// Nothing of the refresh token is shown.
+impl std::fmt::Debug for CallbackContext {
+    ghost use Rattle.std.specs.Prelude.{Some, codes};
+
+    ghost debug_output = { λ _. Some (codes "CallbackContext(\"REDACTED\")") };
+
+    fn fmt<W: std::fmt::Write>(&self, f: &mut std::fmt::Formatter<W>) -> std::fmt::Result {
+        f.write_str("CallbackContext(\"REDACTED\")")
+    }
 }
 
 /// A token, as a helper answers it.

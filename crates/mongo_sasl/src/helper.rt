@@ -54,7 +54,7 @@ pub trait Helper {
         ensures alike { AnswersAlike (Self.gives self.old) (Self.gives self.new) }
         ensures kind { Self.kind_is self.new ≡ Self.kind_is self.old };
 
-    /// The credentials of AWS. None where nobody provides any. With `Callback` `faults` rose by one.
+    /// The credentials of AWS, which counts as one question for them. None where nobody provides any. With `Callback` `faults` rose by one.
     fn aws_credentials(&mut self) -> Result<Option<AwsCredentials>, HelperFault>
         requires can_ask { Self.can_ask self.old }
         ensures can_ask { Self.can_ask self.new }

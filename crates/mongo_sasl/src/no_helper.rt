@@ -7,6 +7,7 @@ use std::alloc::Global;
 pub struct NoHelper {
     alloc: Global,
     asked: u64,
+    key_questions: u64,
     faults: u64,
     pauses: u64,
 }
@@ -17,12 +18,14 @@ impl NoHelper {
     /// A helper that was never asked. The allocator is for the text of its fault.
     pub fn new(alloc: Global) -> NoHelper
         ensures asked { result.asked ≡ 0 }
+        ensures key_questions { result.key_questions ≡ 0 }
         ensures faults { result.faults ≡ 0 }
         ensures pauses { result.pauses ≡ 0 }
     {
         NoHelper {
             alloc,
             asked: 0,
+            key_questions: 0,
             faults: 0,
             pauses: 0,
         }
@@ -30,13 +33,14 @@ impl NoHelper {
 }
 
 impl Helper for NoHelper {
+    ghost use Rattle.std.specs.Prelude.{◌≡◌, None, Ok};
     ghost use Rattle.mongo_sasl.specs.Helper.{HelperCounts, no_answers};
     ghost use Rattle.mongo_sasl.specs.NoHelper.{counts_of};
     ghost use Rattle.mongo_sasl.specs.declared.helper.HelperKind.TheVariants.{Nothing};
 
     ghost gives = { λ _. no_answers };
 
-    ghost counts = { λ helper. counts_of helper.asked helper.faults helper.pauses };
+    ghost counts = { λ helper. counts_of helper.asked helper.key_questions helper.faults helper.pauses };
 
     ghost kind_is = { λ _. Nothing };
 
@@ -53,7 +57,11 @@ impl Helper for NoHelper {
         }
     }
 
-    fn aws_credentials(&mut self) -> Result<Option<AwsCredentials>, HelperFault> {
+    // It says that there are none, whatever memory there is.
+    fn aws_credentials(&mut self) -> Result<Option<AwsCredentials>, HelperFault>
+        ensures none { result ≡ Ok None }
+    {
+        self.key_questions = self.key_questions.saturating_add(1);
         Ok(None)
     }
 
