@@ -34,7 +34,7 @@ impl NoHelper {
 
 impl Helper for NoHelper {
     ghost use Rattle.std.specs.Prelude.{◌≡◌, None, Ok};
-    ghost use Rattle.mongo_sasl.specs.Helper.{HelperCounts, no_answers};
+    ghost use Rattle.mongo_sasl.specs.Helper.{HelperCounts, MayGiveKeys, CountsKeys, AnswersAlike, no_answers};
     ghost use Rattle.mongo_sasl.specs.NoHelper.{counts_of};
     ghost use Rattle.mongo_sasl.specs.declared.helper.HelperKind.TheVariants.{Nothing};
 
@@ -59,6 +59,9 @@ impl Helper for NoHelper {
 
     // It says that there are none, whatever memory there is.
     fn aws_credentials(&mut self) -> Result<Option<AwsCredentials>, HelperFault>
+        ensures answer { MayGiveKeys no_answers result }
+        ensures counts { CountsKeys result (counts_of self.old.asked self.old.key_questions self.old.faults self.old.pauses) (counts_of self.new.asked self.new.key_questions self.new.faults self.new.pauses) }
+        ensures alike { AnswersAlike no_answers no_answers }
         ensures none { result ≡ Ok None }
     {
         self.key_questions = self.key_questions.saturating_add(1);
